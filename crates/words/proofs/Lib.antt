@@ -1,0 +1,3 @@
+-- Laws.
+pub mod Ints
+pub mod LoopLaws

@@ -1,0 +1,3 @@
+-- What a reader must believe of words: their arithmetic, and what a loop over 0, 1, .., n − 1 gives.
+pub mod Loops
+pub mod Words
