@@ -1,0 +1,1 @@
+// Waits, starts and registers of a sheet.
