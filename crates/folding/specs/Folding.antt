@@ -32,11 +32,12 @@ Retiming s r = (e : ℕ) → e < length (s .wires) → pos 0 ≤ℤ wait s r e
 -- the sheet's nodes and wires with their bounds
 abbrev pub net : Sheet → Net
 net s = record {
-    nodes = length (s .nodes);
-    wires = length (s .wires);
-    from = λ e. wire-of s e .from;
-    to = λ e. wire-of s e .to;
-    bound = bound s }
+  nodes = length (s .nodes);
+  wires = length (s .wires);
+  from = λ e. wire-of s e .from;
+  to = λ e. wire-of s e .to;
+  bound = bound s;
+}
 
 -- "tap = the wire's wait", after the starts r
 unfoldable pub tap : Sheet → (ℕ → ℕ) → ℕ → ℕ

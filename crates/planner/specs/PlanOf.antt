@@ -24,19 +24,21 @@ plan-switch s r e =
 -- unit q with "the largest tap that reads the unit, else 0" and "N less the unit's occupied slots"
 abbrev pub plan-unit : Sheet → (ℕ → ℕ) → ℕ → PlanUnit
 plan-unit s r q = record {
-    unit = unit-of s q;
-    line = longest-tap (length (s .wires)) (plan-switch s r) q;
-    idle = s .fold - occupied (s .fold) (length (s .nodes)) (node-of s) q }
+  unit = unit-of s q;
+  line = longest-tap (length (s .wires)) (plan-switch s r) q;
+  idle = s .fold - occupied (s .fold) (length (s .nodes)) (node-of s) q;
+}
 
 -- the plan with starts r
 abbrev pub plan-with : Sheet → (ℕ → ℕ) → Plan
 plan-with s r = record {
-    fold = s .fold;
-    units = tab (length (s .units)) (plan-unit s r);
-    nodes = tab (length (s .nodes)) (plan-node s r);
-    switches = tab (length (s .wires)) (plan-switch s r);
-    registers = registers s r;
-    chain = chain (net s) }
+  fold = s .fold;
+  units = tab (length (s .units)) (plan-unit s r);
+  nodes = tab (length (s .nodes)) (plan-node s r);
+  switches = tab (length (s .wires)) (plan-switch s r);
+  registers = registers s r;
+  chain = chain (net s);
+}
 
 -- the plan with the latest retiming's starts
 unfoldable pub plan-of : Sheet → Plan

@@ -60,14 +60,15 @@ switch-in p e = getD (p .switches) e no-switch
 -- `PH` of 9 bytes, `PU` of 7, `PN` of 9, `PS` of 8
 abbrev pub plan-format : Format
 plan-format = record {
-    header-mark = 80 ∷ 72 ∷ [];
-    unit-mark = 80 ∷ 85 ∷ [];
-    node-mark = 80 ∷ 78 ∷ [];
-    wire-mark = 80 ∷ 83 ∷ [];
-    header-length = 9;
-    unit-length = 7;
-    node-length = 9;
-    wire-length = 8 }
+  header-mark = 80 ∷ 72 ∷ [];
+  unit-mark = 80 ∷ 85 ∷ [];
+  node-mark = 80 ∷ 78 ∷ [];
+  wire-mark = 80 ∷ 83 ∷ [];
+  header-length = 9;
+  unit-length = 7;
+  node-length = 9;
+  wire-length = 8;
+}
 
 abbrev pub unit-bytes : PlanUnit → List ℕ
 unit-bytes u = plan-format .unit-mark ++ (u .unit .kind ∷ u .unit .depth ∷ low (u .line) ∷ high (u .line) ∷ u .idle ∷ [])
@@ -115,9 +116,10 @@ switch-at b o = record { unit = at b (o + 2); input = at b (o + 3); slot = at b 
 
 unfoldable pub plan-read : List ℕ → Plan
 plan-read b = record {
-    fold = fold-in b;
-    units = tab (units-in b) (λ i. plan-unit-at b (unit-place plan-format b i));
-    nodes = tab (nodes-in b) (λ i. plan-node-at b (node-place plan-format b i));
-    switches = tab (wires-in b) (λ i. switch-at b (wire-place plan-format b i));
-    registers = two b 6;
-    chain = at b 8 }
+  fold = fold-in b;
+  units = tab (units-in b) (λ i. plan-unit-at b (unit-place plan-format b i));
+  nodes = tab (nodes-in b) (λ i. plan-node-at b (node-place plan-format b i));
+  switches = tab (wires-in b) (λ i. switch-at b (wire-place plan-format b i));
+  registers = two b 6;
+  chain = at b 8;
+}

@@ -1,1 +1,4 @@
 -- Laws.
+pub mod ReadingLaws
+pub mod NodeLaws
+pub mod ByteLaws

@@ -33,14 +33,15 @@ wire-of s e = getD (s .wires) e (record { from = 0; to = 0; input = 0; delays = 
 -- "`FH` N, units, nodes, wires (6 bytes)", "`FU` kind, depth (4)", "`FN` unit, slot, op, K (7)", "`FE` from, to, input, delays (6)"
 abbrev pub sheet-format : Format
 sheet-format = record {
-    header-mark = 70 ∷ 72 ∷ [];
-    unit-mark = 70 ∷ 85 ∷ [];
-    node-mark = 70 ∷ 78 ∷ [];
-    wire-mark = 70 ∷ 69 ∷ [];
-    header-length = 6;
-    unit-length = 4;
-    node-length = 7;
-    wire-length = 6 }
+  header-mark = 70 ∷ 72 ∷ [];
+  unit-mark = 70 ∷ 85 ∷ [];
+  node-mark = 70 ∷ 78 ∷ [];
+  wire-mark = 70 ∷ 69 ∷ [];
+  header-length = 6;
+  unit-length = 4;
+  node-length = 7;
+  wire-length = 6;
+}
 
 abbrev pub wire-at : List ℕ → ℕ → Wire
 wire-at b o = record { from = at b (o + 2); to = at b (o + 3); input = at b (o + 4); delays = at b (o + 5) }
@@ -48,10 +49,11 @@ wire-at b o = record { from = at b (o + 2); to = at b (o + 3); input = at b (o +
 -- the sheet that the bytes say
 unfoldable pub sheet-of : List ℕ → Sheet
 sheet-of b = record {
-    fold = fold-in b;
-    units = tab (units-in b) (λ i. unit-at b (unit-place sheet-format b i));
-    nodes = tab (nodes-in b) (λ i. node-at b (node-place sheet-format b i));
-    wires = tab (wires-in b) (λ i. wire-at b (wire-place sheet-format b i)) }
+  fold = fold-in b;
+  units = tab (units-in b) (λ i. unit-at b (unit-place sheet-format b i));
+  nodes = tab (nodes-in b) (λ i. node-at b (node-place sheet-format b i));
+  wires = tab (wires-in b) (λ i. wire-at b (wire-place sheet-format b i));
+}
 
 -- ---- faults
 

@@ -1,3 +1,5 @@
 -- Laws.
 pub mod Ints
 pub mod LoopLaws
+pub mod FaultLaws
+pub mod FloorLaws

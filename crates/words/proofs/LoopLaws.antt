@@ -10,7 +10,7 @@ use native.Mathlib.Omega.{arith}
 use lib.Dec.{T, ltb, leb, eqb}
 use lib.ListN.{length, getD}
 use borrow.Author.Tests.{eqb-true, eqb-false, eq-eqb, ne-eqb}
-use Rattle.words.specs.Loops.{tab, every, some-of, total, largest, count, lowest, or-else, first, _then_}
+use Rattle.words.specs.Loops.{tab, every, some-of, total, largest, count, lowest, or-else}
 
 pub length-tab : {A : Type 0} (n : ℕ) (f : ℕ → A) → length (tab n f) ≡ n
 unfolding tab
@@ -166,9 +166,3 @@ every-cong (suc n) p q h = rw (every-cong n p q (λ i l. h i (omega arith)), h n
 pub count-cong : (n : ℕ) (p q : ℕ → Bool) → ((i : ℕ) → i < n → p i ≡ q i) → count n p ≡ count n q
 unfolding count
 count-cong n p q h = total-cong n (λ i. cond (p i) 1 0) (λ i. cond (q i) 1 0) (λ i l. ap (λ (b : Bool). cond {A = ℕ} b 1 0) (h i l))
-
--- no fault at any place
-pub first-none : (n : ℕ) (f : ℕ → ℕ) → ((i : ℕ) → i < n → f i ≡ 0) → first n f ≡ 0
-unfolding first
-first-none zero f h = refl
-first-none (suc n) f h = rw (first-none n f (λ i l. h i (omega arith)), h n (omega arith)) refl
