@@ -1,1 +1,5 @@
 -- Laws.
+pub mod PlanLaws
+pub mod FoldsLaws
+pub mod PlanPasses
+pub mod PassedPlan
