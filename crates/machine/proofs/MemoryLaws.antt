@@ -9,7 +9,7 @@ use native.Mathlib.Nat.{eq-or-lt-of-le, suc-sub-suc}
 use native.Mathlib.Omega.{arith}
 use lib.Dec.{ltb, leb·suc-suc}
 use lib.ListN.{length, getD, take, drop, replicate, length-append, length-take, length-drop, length-replicate, getD-replicate, List·getD-append}
-use lib.Seq.{getD-append-add, getD-take, getD-drop}
+use lib.Seq.{getD-append-add, getD-take, getD-drop, drop-at}
 use borrow.Author.Tests.{lt-ltb, le-ltb}
 use Rattle.records.specs.Units.{word-before}
 use Rattle.records.specs.Records.{at}
@@ -76,11 +76,22 @@ module _ (p : Plan) (m c : List ℕ) (room : size p ≤ length m) where
   unfolding stepped size
   length-stepped = simp (length-append, length-drop) (omega (arith, length-blocks p (moved p m c) length-moved (length (p .units)) (omega arith)))
 
+  -- words beyond the plan's stay
+  pub rest-stepped : drop (size p) (stepped p m c) ≡ drop (size p) m
+  unfolding stepped size
+  rest-stepped =
+      drop-at (blocks (moved p m c) (length (p .units))) (drop (size p) m) (base p (length (p .units))) (length-blocks p (moved p m c) length-moved (length (p .units)) (omega arith))
+
 -- ---- a run from cleared memory
 
 pub length-cleared : (p : Plan) (m : List ℕ) → size p ≤ length m → length (cleared p m) ≡ length m
 unfolding cleared size
 length-cleared p m room = simp (length-append, length-replicate, length-drop) (omega arith)
+
+pub rest-cleared : (p : Plan) (m : List ℕ) → drop (size p) (cleared p m) ≡ drop (size p) m
+unfolding cleared size
+rest-cleared p m =
+    drop-at (replicate (base p (length (p .units))) word-before) (drop (size p) m) (base p (length (p .units))) (length-replicate (base p (length (p .units))) word-before)
 
 pub length-run : (p : Plan) (m : List ℕ) (hand : ℕ → List ℕ) → size p ≤ length m → (t : ℕ) → length (run p m hand t) ≡ length m
 unfolding run

@@ -3,3 +3,4 @@ pub mod PlanLaws
 pub mod FoldsLaws
 pub mod PlanPasses
 pub mod PassedPlan
+pub mod PlanningLaws
