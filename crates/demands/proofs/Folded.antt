@@ -70,10 +70,10 @@ module _ (s : Sheet) (p : Plan) (sound : Sound s) (folds : Folds s p) where
         let 0<d = sound .deep q (sound .on-unit y hy) in
         let u<n = sound .in-turn y hy in
         let eq : tap + d + u + n * b ≡ n * w + n * a + v =
-            subst (λ (z : ℕ). tap + d + u + n * b ≡ n * w + n * (node-in p z .start) + node-of s z .slot) toe
-            (tapℕ n w (node-in p (wire-of s e .to) .start) b (node-of s (wire-of s e .to) .slot) u d tap (folds .taps e he)) in
+        subst (λ (z : ℕ). tap + d + u + n * b ≡ n * w + n * (node-in p z .start) + node-of s z .slot) toe
+        (tapℕ n w (node-in p (wire-of s e .to) .start) b (node-of s (wire-of s e .to) .slot) u d tap (folds .taps e he)) in
         taken t e he ∙ elim (passed? (ltb (j + b) w)) [
-            inl c ↦
+          | inl c ↦
               let l : j + b < w = ltb-true (j + b) w c in
               ago-none (begun p m hand q) t (d + tap) (far n w a b v u d tap eq u<n j l) ∙ sym (ap (λ (z : Bool). cond z word-before (val y (j - w))) (lt-ltb j w (omega arith)))
           | inr c ↦
@@ -81,7 +81,8 @@ module _ (s : Sheet) (p : Plan) (sound : Sound s) (folds : Folds s p) where
               let k = j + b - w in
               let wk : w + k ≡ j + b = omega arith in
               let nr : n * k + u + (d + tap) ≡ t = near n w a b v u d tap eq u<n j k wk in
-              ago-some (begun p m hand q) t (d + tap) (n * k + u) nr ∙ ih y k hy (omega (arith, nr)) ∙ delayed-shift val y b w j k wk ]
+              ago-some (begun p m hand q) t (d + tap) (n * k + u) nr ∙ ih y k hy (omega (arith, nr)) ∙ delayed-shift val y b w j k wk
+        ]
 
     -- the words at the inputs of node x in iteration start + j
     arrives : (x i j : ℕ) → x < length (s .nodes) →
@@ -107,13 +108,14 @@ module _ (s : Sheet) (p : Plan) (sound : Sound s) (folds : Folds s p) where
           let in0 = arrives x 0 j hx ih in
           let in1 = arrives x 1 j hx ih in
           let sample : value (node-of s x .op) (node-of s x .k) (at (hand t) k) (arriving s val x 0 j) (arriving s val x 1 j)
-              ≡ value (node-of s x .op) (node-of s x .k) (xs k j) (arriving s val x 0 j) (arriving s val x 1 j) =
-              elim (passed? (eqb (node-of s x .op) op-port)) [
-                  inl y ↦
-                    let h = handed x hx (eqb-true (node-of s x .op) op-port y) (a + j) (omega arith) hl in
-                    let e : a + j - a ≡ j = omega arith in
-                    ap (λ (z : ℕ). value (node-of s x .op) (node-of s x .k) z (arriving s val x 0 j) (arriving s val x 1 j)) (h ∙ ap (xs k) e)
-                | inr f ↦ no-sample (node-of s x .op) (node-of s x .k) (at (hand t) k) (xs k j) (arriving s val x 0 j) (arriving s val x 1 j) f ] in
+          ≡ value (node-of s x .op) (node-of s x .k) (xs k j) (arriving s val x 0 j) (arriving s val x 1 j) =
+          elim (passed? (eqb (node-of s x .op) op-port)) [
+            | inl y ↦
+                let h = handed x hx (eqb-true (node-of s x .op) op-port y) (a + j) (omega arith) hl in
+                let e : a + j - a ≡ j = omega arith in
+                ap (λ (z : ℕ). value (node-of s x .op) (node-of s x .k) z (arriving s val x 0 j) (arriving s val x 1 j)) (h ∙ ap (xs k) e)
+            | inr f ↦ no-sample (node-of s x .op) (node-of s x .k) (at (hand t) k) (xs k j) (arriving s val x 0 j) (arriving s val x 1 j) f
+          ] in
           let right : val x j ≡ delayed val x a (a + j) = rw (le-ltb (a + j) a (omega arith)) (ap (val x) (omega arith)) in
           result-of s p sound folds mem (hand t) x (a + j) hx (cycle-run p m hand t)
           ∙ rw (le-ltb (a + j) a (omega arith), in0, in1) (sample ∙ sym (vals x hx j) ∙ ap (val x) (omega arith))
@@ -125,12 +127,13 @@ module _ (s : Sheet) (p : Plan) (sound : Sound s) (folds : Folds s p) where
           let a = node-in p x .start in
           let t = s .fold * l + node-of s x .slot in
           elim (passed? (ltb l a)) [
-              inl y ↦ result-of s p sound folds (run p m hand t) (hand t) x l hx (cycle-run p m hand t) ∙ rw y refl
+            | inl y ↦ result-of s p sound folds (run p m hand t) (hand t) x l hx (cycle-run p m hand t) ∙ rw y refl
             | inr f ↦
                 let ge : a ≤ l = ltb-false l a f in
                 let e : a + (l - a) ≡ l = omega arith in
                 let ne : s .fold * (a + (l - a)) ≡ s .fold * l = ap (λ (z : ℕ). s .fold * z) e in
-                subst (Right x) e (worked-out x (l - a) hx (omega (arith, ne)) (λ y k hy lt. right n y k hy (omega (arith, ne, lt)) (omega (arith, ne, lt)))) ]
+                subst (Right x) e (worked-out x (l - a) hx (omega (arith, ne)) (λ y k hy lt. right n y k hy (omega (arith, ne, lt)) (omega (arith, ne, lt))))
+          ]
 
       -- the word leaving at cycle t is what began depth cycles ago
       left : (q t : ℕ) → q < length (s .units) → at (leaving p (run p m hand t)) q ≡ ago (begun p m hand q) t (unit-of s q .depth)
@@ -146,16 +149,17 @@ module _ (s : Sheet) (p : Plan) (sound : Sound s) (folds : Folds s p) where
       pub leaves : Leaves s p val (λ t q. at (leaving p (run p m hand t)) q) last
       unfolding Right
       leaves = record {
-          words = λ x hx l hl.
+        words = λ x hx l hl.
             let q = node-of s x .unit in
             let hq = sound .on-unit x hx in
             let t = s .fold * l + node-of s x .slot in
             left q (t + depth-of s x) hq
             ∙ ago-some (begun p m hand q) (t + depth-of s x) (depth-of s x) t refl
             ∙ right (suc t) x l hx (omega arith) (omega arith);
-          early = λ q hq t hl h. left q t hq ∙ ago-none (begun p m hand q) t (unit-of s q .depth) h;
-          idle = λ q hq v hv empty l hl.
+        early = λ q hq t hl h. left q t hq ∙ ago-none (begun p m hand q) t (unit-of s q .depth) h;
+        idle = λ q hq v hv empty l hl.
             let t = s .fold * l + v in
             let d = unit-of s q .depth in
             left q (t + d) hq ∙ ago-some (begun p m hand q) (t + d) d t refl
-            ∙ idle-of s p sound folds (run p m hand t) (hand t) q v l hv (cycle-run p m hand t) empty }
+            ∙ idle-of s p sound folds (run p m hand t) (hand t) q v l hv (cycle-run p m hand t) empty;
+      }

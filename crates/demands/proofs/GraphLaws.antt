@@ -32,9 +32,10 @@ module _ (s : Sheet) (nodes-from : (e : ℕ) → e < length (s .wires) → wire-
           let a = k e refl in
           let to = eqb-true (wire-of s e .to) x (and-split (eqb (wire-of s e .to) x) (eqb (wire-of s e .input) i) (a .1) .0) in
           elim (passed? (ltb j (wire-of s e .delays))) [
-              inl t ↦ rw t refl
+            | inl t ↦ rw t refl
             | inr b ↦ rw b (h (wire-of s e .from) (j - wire-of s e .delays) (nodes-from e (a .0))
-                (subst (λ (z : ℕ). after (wire-of s e .from) (j - wire-of s e .delays) < after z j) to (ord e (a .0) j (ltb-false j (wire-of s e .delays) b)))) ]
+                (subst (λ (z : ℕ). after (wire-of s e .from) (j - wire-of s e .delays) < after z j) to (ord e (a .0) j (ltb-false j (wire-of s e .delays) b))))
+          ]
 
   pub unique : (xs f g : ℕ → ℕ → ℕ) → Values s xs f → Values s xs g → (n x j : ℕ) → x < length (s .nodes) → after x j < n → f x j ≡ g x j
   unique xs f g vf vg zero x j hx h = absurd (omega arith)

@@ -1,5 +1,8 @@
--- Laws.
+-- Laws and theorems.
 pub mod GraphLaws
 pub mod TapLaws
 pub mod SlotLaws
 pub mod Folded
+pub mod DemandOne
+pub mod DemandTwo
+pub mod DemandThree

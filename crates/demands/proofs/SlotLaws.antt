@@ -69,12 +69,13 @@ module _ (s : Sheet) (p : Plan) (sound : Sound s) (folds : Folds s p) where
       let e1 : at mem 0 % p .fold ≡ v = ap (λ (z : ℕ). z % p .fold) e ∙ slot-at l v v<n in
       ap (λ (z : ℕ). worked p mem c q (lowest (length (p .nodes)) (λ y. runs-in q z (node-in p y .node)))) e1
       ∙ ap (worked p mem c q) (lowest-none (length (p .nodes)) (λ y. runs-in q v (node-in p y .node)) (λ x h. elim (passed? (runs-in q v (node-in p x .node))) [
-          inl t ↦
+        | inl t ↦
             let hx : x < length (s .nodes) = omega (arith, folds .nodes) in
             let a = and-split (eqb (node-in p x .node .unit) q) (eqb (node-in p x .node .slot) v) t in
             absurd (empty x hx (sym (ap (λ (n : Node). n .unit) (folds .node x hx)) ∙ eqb-true (node-in p x .node .unit) q (a .0))
             (sym (ap (λ (n : Node). n .slot) (folds .node x hx)) ∙ eqb-true (node-in p x .node .slot) v (a .1)))
-        | inr f ↦ f ]))
+        | inr f ↦ f
+      ]))
 
   -- the cycles at which nodes begin are such an order
   pub ordered : Ordered s (λ x j. s .fold * (node-in p x .start + j) + node-of s x .slot)

@@ -37,8 +37,9 @@ module _ (n w a b v u d tap : ℕ) (eq : tap + d + u + n * b ≡ n * w + n * a +
 -- the word of iteration k of a node that starts at b is that of iteration j, w delays ago
 pub delayed-shift : (val : ℕ → ℕ → ℕ) (x b w j k : ℕ) → w + k ≡ j + b → delayed val x b k ≡ delayed val x w j
 delayed-shift val x b w j k h = elim (passed? (ltb j w)) [
-    inl t ↦ let l = ltb-true j w t in rw (t, lt-ltb k b (omega arith)) refl
-  | inr f ↦ let l = ltb-false j w f in rw (f, le-ltb k b (omega arith)) (ap (val x) (omega arith)) ]
+  | inl t ↦ let l = ltb-true j w t in rw (t, lt-ltb k b (omega arith)) refl
+  | inr f ↦ let l = ltb-false j w f in rw (f, le-ltb k b (omega arith)) (ap (val x) (omega arith))
+]
 
 -- a value that is no port's does not look at the sample
 pub no-sample : (op : ℕ) (k : ℤ) (x y a b : ℕ) → eqb op op-port ≡ false → value op k x a b ≡ value op k y a b
