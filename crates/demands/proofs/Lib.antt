@@ -7,3 +7,5 @@ pub mod DemandOne
 pub mod DemandTwo
 pub mod DemandThree
 pub mod Worked
+pub mod Registers
+pub mod WrongPrograms

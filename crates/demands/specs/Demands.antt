@@ -7,7 +7,8 @@ use lib.ListN.{length, take, drop}
 use lib.IntN.{ℤ, pos}
 use lib.Signed.{_<ℤ_}
 use Rattle.words.specs.Loops.{tab}
-use Rattle.records.specs.Units.{channels}
+use Rattle.words.specs.Words.{turn}
+use Rattle.records.specs.Units.{channels, value}
 use Rattle.records.specs.Records.{at}
 use Rattle.sheets.specs.Sheet.{Sheet, sheet-of, sheet-fault}
 use Rattle.sheets.specs.Sound.{Sound}
@@ -123,6 +124,10 @@ pub record RegistersMean (s : Sheet) (r : ℕ → ℕ) : Type 0 where
 
 abbrev pub RegistersMeant : Type 0
 RegistersMeant = (s : Sheet) → Sound s → (r : ℕ → ℕ) → RegistersMean s r
+
+-- "Words have 32 bits": every word that an op gives is one, where the sample is
+abbrev pub OpsGiveWords : Type 0
+OpsGiveWords = (op : ℕ) (k : ℤ) (sample a b : ℕ) → sample < turn → value op k sample a b < turn
 
 -- ---- demand 3: "Take any sheet we pass, any sample streams, cleared memory, its plan stepped from cycle 0 on, to 4,294,967,294 at most."
 
