@@ -9,3 +9,4 @@ pub mod DemandThree
 pub mod Worked
 pub mod Registers
 pub mod WrongPrograms
+pub mod Instances
