@@ -7,9 +7,9 @@ use Prim.Native.Nat.{ℕ, zero, suc, _+_, _*_, _-_, _/_, _%_, _<_, _≤_}
 use native.Mathlib.Nat.{mod-lt, mul-add-mod-self-left, div-add-mod', mul-le-mul-left, div-le-self}
 use native.Mathlib.Decide.{decLe}
 use native.Mathlib.Omega.{arith}
-use lib.Dec.{leb, eqb}
+use lib.Dec.{ltb, leb, eqb}
 use lib.ListN.{length}
-use borrow.Author.Tests.{eqb-true, eqb-false, eq-eqb, ne-eqb, le-leb, lt-leb, leb-true}
+use borrow.Author.Tests.{eqb-true, eq-eqb, ne-eqb, le-leb, lt-leb, lt-ltb, le-ltb, ltb-true}
 use Rattle.words.specs.Loops.{some-of, total, count}
 use Rattle.words.proofs.LoopLaws.{passed?, total-le, total-cong, count-cong, largest-ge, and-split}
 use Rattle.words.proofs.CountLaws.{count-none, count-one, some-found, count-split}
@@ -72,24 +72,27 @@ module _ (n : ℕ) (0<n : 0 < n) (t : ℕ) where
 
   -- a word that leaves at cycle a of iteration 0 and waits m cycles
   waits : ℕ → ℕ → ℕ → Bool
-  waits a m l = leb (n * l + (a + 1)) t && leb t (n * l + (a + m))
+  waits a m l = ltb (n * l + a) t && leb t (n * l + a + m)
 
   no-wait : (a l : ℕ) → waits a 0 l ≡ false
   unfolding waits
-  no-wait a l = elim (passed? (leb (n * l + (a + 1)) t)) [
-    | inl y ↦ rw (y, lt-leb t (n * l + (a + 0)) (let h = leb-true (n * l + (a + 1)) t y in omega arith)) refl
+  no-wait a l = elim (passed? (ltb (n * l + a) t)) [
+    | inl y ↦ rw (y, lt-leb t (n * l + a + 0) (let h = ltb-true (n * l + a) t y in omega arith)) refl
     | inr f ↦ rw f refl
   ]
 
   longer : (a m l : ℕ) → cond {A = ℕ} (waits a (suc m) l) 1 0 ≡ cond (waits a m l) 1 0 + cond (falls-on (a + suc m) l) 1 0
   unfolding waits falls-on
-  longer a m l = elim (decLe (n * l + (a + 1)) t) [
-    | no early ↦ rw (lt-leb (n * l + (a + 1)) t (omega arith), ne-eqb t (n * l + (a + suc m)) (λ e. omega arith)) refl
-    | yes left ↦ elim (decLe t (n * l + (a + m))) [
-      | yes still ↦ rw (le-leb (n * l + (a + 1)) t left, le-leb t (n * l + (a + m)) still, le-leb t (n * l + (a + suc m)) (omega arith), ne-eqb t (n * l + (a + suc m)) (λ e. omega arith)) refl
-      | no over ↦ elim (decLe t (n * l + (a + suc m))) [
-        | yes last ↦ rw (le-leb (n * l + (a + 1)) t left, lt-leb t (n * l + (a + m)) (omega arith), le-leb t (n * l + (a + suc m)) last, eq-eqb t (n * l + (a + suc m)) (omega arith)) refl
-        | no gone ↦ rw (le-leb (n * l + (a + 1)) t left, lt-leb t (n * l + (a + m)) (omega arith), lt-leb t (n * l + (a + suc m)) (omega arith), ne-eqb t (n * l + (a + suc m)) (λ e. omega arith)) refl
+  longer a m l = elim (decLe (suc (n * l + a)) t) [
+    | no early ↦ rw (le-ltb (n * l + a) t (omega arith), ne-eqb t (n * l + (a + suc m)) (λ e. omega arith)) refl
+    | yes left ↦ elim (decLe t (n * l + a + m)) [
+      | yes still ↦
+          rw (lt-ltb (n * l + a) t left, le-leb t (n * l + a + m) still, le-leb t (n * l + a + suc m) (omega arith), ne-eqb t (n * l + (a + suc m)) (λ e. omega arith)) refl
+      | no over ↦ elim (decLe t (n * l + a + suc m)) [
+        | yes last ↦
+            rw (lt-ltb (n * l + a) t left, lt-leb t (n * l + a + m) (omega arith), le-leb t (n * l + a + suc m) last, eq-eqb t (n * l + (a + suc m)) (omega arith)) refl
+        | no gone ↦
+            rw (lt-ltb (n * l + a) t left, lt-leb t (n * l + a + m) (omega arith), lt-leb t (n * l + a + suc m) (omega arith), ne-eqb t (n * l + (a + suc m)) (λ e. omega arith)) refl
       ]
     ]
   ]
