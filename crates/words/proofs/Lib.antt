@@ -1,3 +1,7 @@
 -- Laws.
+pub mod FitLaws
+pub mod FloorLaws
 pub mod Ints
 pub mod LoopLaws
+pub mod MaskLaws
+pub mod WordLaws
