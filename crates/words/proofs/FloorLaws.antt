@@ -3,12 +3,15 @@
 use mathlib.Core.Path.{_≡_, refl, sym, ap, _∙_, subst}
 use mathlib.Core.Bool.{true, false, true≢false}
 use Prim.Native.Nat.{ℕ, zero, suc, _*_, _/_, _<_, _≤_}
-use native.Mathlib.Nat.{le-div-iff-mul-le, div-lt-iff-lt-mul, div-le-self, mul-comm, le-refl}
+use native.Mathlib.Nat.{le-div-iff-mul-le, div-lt-iff-lt-mul, div-le-self, mul-comm, le-refl, le-trans, lt-of-le-of-lt}
 use native.Mathlib.Omega.{arith}
 use lib.IntN.{ℤ, pos, negsuc, negℤ, _-ℤ_, _*ℤ_}
 use lib.Signed.{mag, ltZ, quotZ, shrZ, _≤ℤ_}
 use borrow.Author.Tests.{ltb-true}
+use mir.Syntax.{Width}
+use mir.Val.{SFits}
 use Rattle.words.specs.Words.{floor}
+use Rattle.words.proofs.FitLaws.{fits, fits-up}
 use Rattle.words.proofs.Ints.{up, down, le-up, up-le, up-eq, timesℤ, difℤ}
 
 pub floor-up : (n : ℕ) → 0 < n → (q z : ℤ) → (pos n *ℤ q) ≤ℤ z → q ≤ℤ floor z n
@@ -34,10 +37,16 @@ floor-down n h (negsuc q) (negsuc a) k =
     let k′ : a < suc q * n = div-lt-iff-lt-mul h .0 d in up-le (omega (arith, timesℤ n (negsuc q) .0, timesℤ n (negsuc q) .1))
 
 -- the floor is no further from 0 than z is
-pub mag-floor : (z : ℤ) (n : ℕ) → mag (floor z n) ≤ mag z
-unfolding floor
-mag-floor (pos a) n = div-le-self a n
-mag-floor (negsuc a) n = div-le-self a n
+pub floor-size : (z : ℤ) (n : ℕ) → (up (floor z n) ≤ up z) × (down (floor z n) ≤ down z)
+unfolding floor up down
+floor-size (pos a) n = (div-le-self a n, omega arith)
+floor-size (negsuc a) n = (omega arith, omega (arith, div-le-self a n))
+
+pub floor-fits : {w : Width} (z : ℤ) (n : ℕ) → SFits w z → SFits w (floor z n)
+floor-fits {w} z n f =
+    let s = floor-size z n in
+    let l = fits-up {w = w} z f in
+    fits (floor z n) (lt-of-le-of-lt (s .0) (l .0)) (le-trans (s .1) (l .1))
 
 -- ---- the machine's steps
 

@@ -10,7 +10,7 @@ use mir.Val.{SFits, toZ}
 use mir.ValLaws.{toZ-ofZ, toZ-pos, sfits-le}
 use borrow.Author.Needs.{needs}
 use Rattle.words.specs.Words.{floor}
-use Rattle.words.proofs.FloorLaws.{mag-floor, mag-mirror, mag-quot, quot-floor, mirror-floor}
+use Rattle.words.proofs.FloorLaws.{floor-fits, mag-mirror, mag-quot, quot-floor, mirror-floor}
 use Rattle.words.proofs.floor_div.Statement.{statement}
 use Rattle.words.proofs.floor_div.Tie as tie
 
@@ -27,7 +27,7 @@ divided : (c : tie.Start) → SFits w32 (quotZ (negsuc 0 -ℤ c .args .d) (pos (
 divided c = sfits-le (mag-quot (negsuc 0 -ℤ c .args .d) (c .args .n)) (mirrored c)
 
 floored : (c : tie.Start) → SFits w32 (floor (c .args .d) (c .args .n))
-floored c = sfits-le (mag-floor (c .args .d) (c .args .n)) (c .fits .d)
+floored c = floor-fits (c .args .d) (c .args .n) (c .fits .d)
 
 cast-m : tie.Need-cast-m
 cast-m c = search needs

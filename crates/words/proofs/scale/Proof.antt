@@ -8,10 +8,10 @@ use lib.Signed.{shrZ}
 use mir.Syntax.{w16, w64}
 use mir.Val.{SFits, toZ, ofZ}
 use mir.Facts.{sfits-widen}
-use mir.ValLaws.{toZ-ofZ, sfits-le}
+use mir.ValLaws.{toZ-ofZ}
 use borrow.Author.Needs.{needs}
 use Rattle.words.specs.Words.{turn, half-turn, whole-gain, floor, residue, signed, scale}
-use Rattle.words.proofs.FloorLaws.{mag-floor, shift-floor}
+use Rattle.words.proofs.FloorLaws.{floor-fits, shift-floor}
 use Rattle.words.proofs.WordLaws.{mag-signed, signed-fits, product-fits}
 use Rattle.words.proofs.scale.Statement.{statement}
 use Rattle.words.proofs.scale.Tie as tie
@@ -49,7 +49,7 @@ unfolding scale
 returns c =
     let s = c .before .before in
     let p = signed half-turn (s .args .a) *ℤ s .args .k in
-    let f : SFits w64 (floor p whole-gain) = sfits-le (mag-floor p whole-gain) (product s) in
+    let f : SFits w64 (floor p whole-gain) = floor-fits p whole-gain (product s) in
     c .to-word .ensures ∙ ap (λ z. residue z turn) (simp (factors (c .before), toZ-ofZ w64 p (product s), shift-floor p whole-gain, toZ-ofZ w64 (floor p whole-gain) f))
 
 pub scale-spec : {M : Type 1} → statement M
