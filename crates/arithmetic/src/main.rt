@@ -1,4 +1,5 @@
 // The paper's arithmetic examples, run: the four bounds with N=4, the four scales, and the mean of 315 and 45 degrees.
+// What it prints is held to the file stdout. Assumes nothing.
 ghost use lib.IntN.{pos, _-ℤ_};
 ghost use mir.Syntax.{w32};
 ghost use mir.Val.{SFits};

@@ -1,11 +1,12 @@
 -- When a whole number fits a signed width, over the width: by its ups and downs, so that omega shows it. Assumes nothing.
-use mathlib.Core.Path.{_≡_, refl, sym, ap, _∙_}
-use mathlib.Core.Bool.{Bool, false}
-use Prim.Native.Nat.{ℕ, suc, _+_, _-_, _*_, _^_, _<_, _≤_}
+use mathlib.Core.Path.{_≡_, refl}
+use mathlib.Core.Bool.{Bool}
+use Prim.Native.Nat.{ℕ, zero, suc, _+_, _-_, _*_, _^_, _<_, _≤_}
+use native.Mathlib.Nat.{lt-of-le-of-lt, le-trans, mul-le-mul}
 use native.Mathlib.Omega.{arith}
 use lib.Dec.{T, eqb}
-use lib.IntN.{ℤ, pos, negsuc, natAbs, _+ℤ_, _-ℤ_}
-use lib.Signed.{nonNeg, leZ, _≤ℤ_, yes-nonNeg}
+use lib.IntN.{ℤ, pos, negsuc, negℤ, natAbs, _+ℤ_, _-ℤ_, _*ℤ_}
+use lib.Signed.{mag, nonNeg, leZ, _≤ℤ_, yes-nonNeg, natAbs-le}
 use borrow.Author.Tests.{eqb-true, eq-eqb, ne-eqb}
 use mir.Syntax.{Width}
 use mir.Val.{Fits, SFits, toZ, ofZ, bits, hbits}
@@ -41,14 +42,39 @@ unfolding up down
 gap-fits a b h k =
     let s = dif-size (pos a) (pos b) in fits (pos a -ℤ pos b) (omega (arith, s .0)) (omega (arith, s .1))
 
+-- ---- products
+
+abs-neg : (n : ℕ) → natAbs (negℤ (pos n)) ≡ n
+abs-neg zero = refl
+abs-neg (suc n) = refl
+
+abs-times : (a b : ℤ) → natAbs (a *ℤ b) ≡ natAbs a * natAbs b
+abs-times (pos a) (pos b) = refl
+abs-times (pos a) (negsuc b) = abs-neg (a * suc b)
+abs-times (negsuc a) (pos b) = abs-neg (suc a * b)
+abs-times (negsuc a) (negsuc b) = refl
+
+mag-abs : (z : ℤ) → mag z ≤ natAbs z
+mag-abs (pos a) = omega arith
+mag-abs (negsuc a) = omega arith
+
+-- a product fits where the product of the factors' limits does
+pub product-fits : {w : Width} (a b : ℤ) (m n : ℕ) → mag a < m → mag b < n → m * n < 2 ^ hbits w →
+    SFits w (a *ℤ b)
+product-fits a b m n ha hb h =
+    let l : natAbs a * natAbs b ≤ m * n = mul-le-mul (natAbs-le a ha) (natAbs-le b hb) in
+    record { sfits = lt-of-le-of-lt (le-trans (mag-abs (a *ℤ b)) (rw (abs-times a b) l)) h }
+
 -- ---- the machine's readings
 
 -- a test of two signed numbers, as it is written and as the machine reads it
-pub le-read : {w : Width} (a b : ℤ) (t : Bool) → SFits w a → SFits w b → leZ (toZ w (ofZ w a)) (toZ w (ofZ w b)) ≡ t → leZ a b ≡ t
+pub le-read : {w : Width} (a b : ℤ) (t : Bool) → SFits w a → SFits w b →
+    leZ (toZ w (ofZ w a)) (toZ w (ofZ w b)) ≡ t → leZ a b ≡ t
 le-read {w} a b t f g e = rw (toZ-ofZ w a f, toZ-ofZ w b g) at e
 
 -- a number that is not below 0, cast to unsigned
-pub cast-read : {w : Width} (z : ℤ) → pos 0 ≤ℤ z → SFits w z → T (nonNeg (toZ w (ofZ w z))) × Fits w (natAbs (toZ w (ofZ w z)))
+pub cast-read : {w : Width} (z : ℤ) → pos 0 ≤ℤ z → SFits w z →
+    T (nonNeg (toZ w (ofZ w z))) × Fits w (natAbs (toZ w (ofZ w z)))
 cast-read {w} z h f = rw (toZ-ofZ w z f) (yes-nonNeg h, unsigned z h f)
   where
     unsigned : (z : ℤ) → pos 0 ≤ℤ z → SFits w z → Fits w (natAbs z)

@@ -1,6 +1,6 @@
 -- Laws of the floor: it is the largest q with n q at most z, and what the machine's division and shift give is the floor.
 -- Assumes nothing.
-use mathlib.Core.Path.{_≡_, refl, sym, ap, _∙_, subst}
+use mathlib.Core.Path.{_≡_, refl, ap, _∙_}
 use mathlib.Core.Bool.{true, false, true≢false}
 use Prim.Native.Nat.{ℕ, zero, suc, _*_, _/_, _<_, _≤_}
 use native.Mathlib.Nat.{le-div-iff-mul-le, div-lt-iff-lt-mul, div-le-self, mul-comm, le-refl, le-trans, lt-of-le-of-lt}

@@ -1,13 +1,13 @@
 -- Laws of a mask of slots: what a slot put in changes, and that its ones are its slots, counted. Assumes nothing.
 use mathlib.Core.Path.{_≡_, refl, sym, ap, ap₂, _∙_}
 use mathlib.Core.Bool.{Bool, true, false, cond, _||_}
-use Prim.Native.Nat.{ℕ, zero, suc, _+_, _-_, _*_, _/_, _%_, _^_, _<_, _≤_}
+use Prim.Native.Nat.{ℕ, zero, suc, _+_, _-_, _*_, _/_, _%_, _^_, _<_}
 use native.Mathlib.Nat.{add-comm, div-self, div-eq-of-lt, mod-lt}
 use native.Mathlib.Numerals.{one-add}
 use native.Mathlib.Omega.{arith}
 use lib.Arith.{lt-one, lt-of-le-ne}
 use lib.Bits.{bitOr, or-shr, or-mod, or-zero-r, or-lt}
-use lib.Count.{ones, ones-step, ones-cat}
+use lib.Count.{ones, ones-cat}
 use lib.Dec.{eqb, ltb, lit<}
 use lib.Pow.{shl-exact, shl-shr, shr-lt, split, field, mod-mod-pow, pow-add, pow-lt, pow-pos}
 use borrow.Author.Tests.{eqb-true, eqb-false, ltb-true, ltb-false}
@@ -36,7 +36,8 @@ bit-below : (s t : ℕ) → t < s → 2 ^ s / 2 ^ t % 2 ≡ 0
 bit-below s t h =
     let k : ℕ = s - t - 1 in
     let e : s ≡ (k + 1) + t = omega arith in
-    let d : 2 ^ s / 2 ^ t ≡ 2 ^ (k + 1) = ap (λ (x : ℕ). x / 2 ^ t) (ap (λ (x : ℕ). 2 ^ x) e ∙ pow-add 2 (k + 1) t) ∙ shl-shr (2 ^ (k + 1)) t in
+    let q : 2 ^ s ≡ 2 ^ (k + 1) * 2 ^ t = ap (λ (x : ℕ). 2 ^ x) e ∙ pow-add 2 (k + 1) t in
+    let d : 2 ^ s / 2 ^ t ≡ 2 ^ (k + 1) = ap (λ (x : ℕ). x / 2 ^ t) q ∙ shl-shr (2 ^ (k + 1)) t in
     let p : 2 ^ (k + 1) ≡ 2 ^ k * 2 = pow-add 2 k 1 in
     omega arith
 
@@ -49,18 +50,22 @@ or-one zero h = refl
 or-one (suc zero) h = refl
 or-one (suc (suc x)) h = absurd (omega arith)
 
-by-slot : (m s t : ℕ) (b : Bool) → eqb s t ≡ b → eqb (bitOr (m / 2 ^ t % 2) (2 ^ s / 2 ^ t % 2)) 1 ≡ (b || eqb (m / 2 ^ t % 2) 1)
+by-slot : (m s t : ℕ) (b : Bool) → eqb s t ≡ b →
+    eqb (bitOr (m / 2 ^ t % 2) (2 ^ s / 2 ^ t % 2)) 1 ≡ (b || eqb (m / 2 ^ t % 2) 1)
 by-slot m s t true e =
     let own : 2 ^ s / 2 ^ t % 2 ≡ 1 = ap (λ (x : ℕ). 2 ^ x / 2 ^ t % 2) (eqb-true s t e) ∙ own-bit t in
     ap (λ (x : ℕ). eqb x 1) (ap (bitOr (m / 2 ^ t % 2)) own ∙ or-one (m / 2 ^ t % 2) (omega arith))
 by-slot m s t false e =
-    ap (λ (x : ℕ). eqb x 1) (ap (bitOr (m / 2 ^ t % 2)) (other-bit s t (ltb s t) refl (eqb-false s t e)) ∙ or-zero-r (m / 2 ^ t % 2))
+    let none : 2 ^ s / 2 ^ t % 2 ≡ 0 = other-bit s t (ltb s t) refl (eqb-false s t e) in
+    ap (λ (x : ℕ). eqb x 1) (ap (bitOr (m / 2 ^ t % 2)) none ∙ or-zero-r (m / 2 ^ t % 2))
 
 -- the slot put in is taken, and the others are as they were
 pub in-with : (m s t : ℕ) → in-mask (with-slot m s) t ≡ (eqb s t || in-mask m t)
 unfolding in-mask with-slot
 in-with m s t =
-    ap (λ (x : ℕ). eqb x 1) (ap (λ (x : ℕ). x % 2) (or-shr m (2 ^ s) t) ∙ or-mod (m / 2 ^ t) (2 ^ s / 2 ^ t) 1) ∙ by-slot m s t (eqb s t) refl
+    let bits : bitOr m (2 ^ s) / 2 ^ t % 2 ≡ bitOr (m / 2 ^ t % 2) (2 ^ s / 2 ^ t % 2) =
+    ap (λ (x : ℕ). x % 2) (or-shr m (2 ^ s) t) ∙ or-mod (m / 2 ^ t) (2 ^ s / 2 ^ t) 1 in
+    ap (λ (x : ℕ). eqb x 1) bits ∙ by-slot m s t (eqb s t) refl
 
 -- ---- the ones
 
@@ -84,10 +89,13 @@ pub ones-count : (k m : ℕ) → m < 2 ^ k → ones m ≡ count k (in-mask m)
 unfolding count total in-mask ones
 ones-count zero m h = ap ones (lt-one h)
 ones-count (suc k) m h =
-    let low : m % 2 ^ k < 2 ^ k = mod-lt m (pow-pos k) in
-    let top : m / 2 ^ k < 2 = shr-lt 1 k (rw (sym (one-add k)) at h) in
-    ap ones (sym (split m k)) ∙ ones-cat k (m / 2 ^ k) (m % 2 ^ k) low ∙ add-comm (ones (m / 2 ^ k)) (ones (m % 2 ^ k))
-    ∙ ap₂ (λ (x y : ℕ). x + y) (ones-count k (m % 2 ^ k) low ∙ count-cong k (in-mask (m % 2 ^ k)) (in-mask m) (λ t l. in-low m k t l)) (ones-bit (m / 2 ^ k) top)
+    let q = m / 2 ^ k in
+    let r = m % 2 ^ k in
+    let low : r < 2 ^ k = mod-lt m (pow-pos k) in
+    let top : q < 2 = shr-lt 1 k (rw (sym (one-add k)) at h) in
+    let below : ones r ≡ count k (in-mask m) = ones-count k r low ∙ count-cong k (in-mask r) (in-mask m) (λ t l. in-low m k t l) in
+    ap ones (sym (split m k)) ∙ ones-cat k q r low ∙ add-comm (ones q) (ones r)
+    ∙ ap₂ (λ (x y : ℕ). x + y) below (ones-bit q top)
 
 -- where the mask holds the slots that pass, its ones are how many pass
 pub ones-are : (k m : ℕ) (p : ℕ → Bool) → m < 2 ^ k → ((v : ℕ) → v < k → in-mask m v ≡ p v) → ones m ≡ count k p

@@ -1,5 +1,5 @@
 // Words of 32 bits and the graph's arithmetic: sum, difference and scale, and what they are made of. Each gives what its
-// definition in specs/Words.antt says, for all inputs; a signed value is made a word once, at the end.
+// definition in specs/Words.antt says, for all inputs; a signed value is made a word once, at the end. Assumes nothing.
 ghost use mathlib.Core.Path.{_≡_};
 ghost use Prim.Native.Nat.{_<_};
 ghost use Rattle.words.specs.Words.{turn, half-turn, floor, residue, signed, sum, difference, scale};

@@ -1,4 +1,5 @@
 // A unit's occupied slots as one mask: bit s is 1 where slot s is taken. Slots are below 32, as N is at most 32.
+// Assumes nothing.
 ghost use mathlib.Core.Path.{_≡_};
 ghost use Prim.Native.Nat.{_<_};
 ghost use lib.Count.{ones};

@@ -3,16 +3,16 @@ use mathlib.Core.Path.{_≡_, ap, _∙_}
 use native.Mathlib.Omega.{arith}
 use Prim.Native.Nat.{_^_}
 use lib.Dec.{lit<}
-use lib.IntN.{_*ℤ_}
-use lib.Signed.{shrZ}
+use lib.IntN.{ℤ, _*ℤ_}
 use mir.Syntax.{w16, w64}
 use mir.Val.{SFits, toZ, ofZ}
 use mir.Facts.{sfits-widen}
 use mir.ValLaws.{toZ-ofZ}
 use borrow.Author.Needs.{needs}
 use Rattle.words.specs.Words.{turn, half-turn, whole-gain, floor, residue, signed, scale}
+use Rattle.words.proofs.FitLaws.{product-fits}
 use Rattle.words.proofs.FloorLaws.{floor-fits, shift-floor}
-use Rattle.words.proofs.WordLaws.{mag-signed, signed-fits, product-fits}
+use Rattle.words.proofs.WordLaws.{mag-signed, signed-fits}
 use Rattle.words.proofs.scale.Statement.{statement}
 use Rattle.words.proofs.scale.Tie as tie
 
@@ -24,13 +24,20 @@ wide c = sfits-widen tt (c .fits .k)
 
 product : (c : tie.Start) → SFits w64 (signed half-turn (c .args .a) *ℤ c .args .k)
 product c =
-    product-fits (signed half-turn (c .args .a)) (c .args .k) half-turn (2 ^ 15) (mag-signed half-turn (c .args .a) (omega arith)) (c .fits .k .sfits) (lit< tt)
+    let a = c .args .a in
+    product-fits (signed half-turn a) (c .args .k) half-turn (2 ^ 15) (mag-signed half-turn a (omega arith)) (c .fits .k .sfits) (lit< tt)
 
-factors : (c : tie.After-signed-word) → toZ w64 (ofZ w64 (c .signed-word .result)) *ℤ toZ w64 (ofZ w64 (toZ w16 (ofZ w16 (c .before .args .k)))) ≡ signed half-turn (c .before .args .a) *ℤ c .before .args .k
+factors : (c : tie.After-signed-word) →
+    toZ w64 (ofZ w64 (c .signed-word .result)) *ℤ toZ w64 (ofZ w64 (toZ w16 (ofZ w16 (c .before .args .k))))
+    ≡ signed half-turn (c .before .args .a) *ℤ c .before .args .k
 factors c =
-    let a = c .before .args .a in
-    let s = signed-fits half-turn a (omega arith) tt in
-    simp (c .signed-word .ensures, gain (c .before), toZ-ofZ w64 (c .before .args .k) (wide (c .before)), toZ-ofZ w64 (signed half-turn a) s)
+    let s = c .before in
+    simp (
+      c .signed-word .ensures,
+      gain s,
+      toZ-ofZ w64 (s .args .k) (wide s),
+      toZ-ofZ w64 (signed half-turn (s .args .a)) (signed-fits half-turn (s .args .a) (omega arith) tt),
+    )
 
 signed-word-requires : tie.Need-signed-word-requires
 signed-word-requires c κs = search needs
@@ -50,7 +57,9 @@ returns c =
     let s = c .before .before in
     let p = signed half-turn (s .args .a) *ℤ s .args .k in
     let f : SFits w64 (floor p whole-gain) = floor-fits p whole-gain (product s) in
-    c .to-word .ensures ∙ ap (λ z. residue z turn) (simp (factors (c .before), toZ-ofZ w64 p (product s), shift-floor p whole-gain, toZ-ofZ w64 (floor p whole-gain) f))
+    c .to-word .ensures
+    ∙ ap (λ (z : ℤ). residue z turn)
+    (simp (factors (c .before), toZ-ofZ w64 p (product s), shift-floor p whole-gain, toZ-ofZ w64 (floor p whole-gain) f))
 
 pub scale-spec : {M : Type 1} → statement M
 scale-spec =

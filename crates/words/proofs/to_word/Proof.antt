@@ -2,7 +2,6 @@
 -- below 0. Assumes nothing.
 use mathlib.Core.Path.{_≡_}
 use mathlib.Core.Bool.{true, false}
-use Prim.Native.Nat.{_<_}
 use native.Mathlib.Nat.{lt-trans}
 use lib.Dec.{lit<}
 use lib.IntN.{ℤ, pos}

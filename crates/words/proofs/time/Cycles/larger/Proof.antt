@@ -1,7 +1,5 @@
 -- `words::time::Cycles::larger` meets its contract: the test picks the larger. Assumes nothing.
-use mathlib.Core.Path.{_≡_}
-use mathlib.Core.Bool.{Bool, true, false}
-use lib.Signed.{leZ}
+use mathlib.Core.Bool.{true, false}
 use borrow.Author.Needs.{needs}
 use Rattle.words.proofs.FitLaws.{le-read}
 use Rattle.words.proofs.time.Cycles.larger.Statement.{statement}

@@ -1,6 +1,6 @@
 -- `words::time::Cycles::raw` meets its contract: products and sums of bytes are far below 2^31. Assumes nothing.
 use mathlib.Core.Path.{_≡_}
-use Prim.Native.Nat.{_+_, _*_, _<_, _≤_}
+use Prim.Native.Nat.{ℕ, _+_, _*_, _≤_}
 use native.Mathlib.Nat.{mul-le-mul}
 use native.Mathlib.Omega.{arith}
 use lib.IntN.{pos, _-ℤ_}
@@ -17,15 +17,20 @@ rounds c =
     let f : c .args .fold ≤ 255 = omega arith in
     let d : c .args .delays ≤ 255 = omega arith in mul-le-mul f d
 
-reads : (c : tie.Start) → toZ w32 (c .args .fold * c .args .delays + c .args .to) ≡ pos (c .args .fold * c .args .delays + c .args .to)
-reads c = toZ-pos w32 (c .args .fold * c .args .delays + c .args .to) (omega (arith, rounds c))
+abbrev reads : tie.Start → ℕ
+reads c = c .args .fold * c .args .delays + c .args .to
 
-leaves : (c : tie.Start) → toZ w32 (c .args .depth + c .args .from) ≡ pos (c .args .depth + c .args .from)
-leaves c = toZ-pos w32 (c .args .depth + c .args .from) (omega arith)
+abbrev leaves : tie.Start → ℕ
+leaves c = c .args .depth + c .args .from
 
-wait : (c : tie.Start) → SFits w32 (pos (c .args .fold * c .args .delays + c .args .to) -ℤ pos (c .args .depth + c .args .from))
-wait c =
-    gap-fits (c .args .fold * c .args .delays + c .args .to) (c .args .depth + c .args .from) (omega (arith, rounds c)) (omega arith)
+whole-reads : (c : tie.Start) → toZ w32 (reads c) ≡ pos (reads c)
+whole-reads c = toZ-pos w32 (reads c) (omega (arith, rounds c))
+
+whole-leaves : (c : tie.Start) → toZ w32 (leaves c) ≡ pos (leaves c)
+whole-leaves c = toZ-pos w32 (leaves c) (omega arith)
+
+wait : (c : tie.Start) → SFits w32 (pos (reads c) -ℤ pos (leaves c))
+wait c = gap-fits (reads c) (leaves c) (omega (arith, rounds c)) (omega arith)
 
 mul-reads : tie.Need-mul-reads
 mul-reads c = omega (arith, rounds c)
@@ -43,11 +48,10 @@ cast-wait-2 : tie.Need-cast-wait-2
 cast-wait-2 c = search needs
 
 sub-wait : tie.Need-sub-wait
-sub-wait c = simp (reads c, leaves c) (wait c)
+sub-wait c = simp (whole-reads c, whole-leaves c) (wait c)
 
 returns : tie.Need-returns
-returns c =
-    simp (reads c, leaves c, toZ-ofZ w32 (pos (c .args .fold * c .args .delays + c .args .to) -ℤ pos (c .args .depth + c .args .from)) (wait c))
+returns c = simp (whole-reads c, whole-leaves c, toZ-ofZ w32 (pos (reads c) -ℤ pos (leaves c)) (wait c))
 
 pub raw-spec : {M : Type 1} → statement M
 raw-spec =

@@ -1,9 +1,7 @@
 -- `words::time::Iterations::cycles` meets its contract: N and the number are read as they are. Assumes nothing.
-use mathlib.Core.Path.{_≡_}
 use native.Mathlib.Omega.{arith}
 use lib.IntN.{pos, _*ℤ_}
 use mir.Syntax.{w32}
-use mir.Val.{SFits, toZ, ofZ}
 use mir.ValLaws.{toZ-ofZ, toZ-pos}
 use borrow.Author.Needs.{needs}
 use Rattle.words.proofs.time.Iterations.cycles.Statement.{statement}

@@ -1,7 +1,5 @@
 -- `words::time::Iterations::lesser` meets its contract: the test picks the lesser. Assumes nothing.
-use mathlib.Core.Path.{_≡_}
-use mathlib.Core.Bool.{Bool, true, false}
-use lib.Signed.{leZ}
+use mathlib.Core.Bool.{true, false}
 use borrow.Author.Needs.{needs}
 use Rattle.words.proofs.FitLaws.{le-read}
 use Rattle.words.proofs.time.Iterations.lesser.Statement.{statement}
