@@ -16,7 +16,7 @@ use Rattle.folding.specs.Walks.{Loop, Meets}
 use Rattle.folding.specs.Latest.{Latest, IsChain}
 use Rattle.folding.specs.Folding.{net, wait, Retiming}
 use Rattle.folding.specs.Lifetime.{last-live, live, registers, waiting}
-use Rattle.plans.specs.Plan.{Plan, node-in, switch-in, plan-read}
+use Rattle.plans.specs.Plan.{Plan, node-in, switch-in, loop-length, plan-read}
 use Rattle.plans.specs.Judging.{plan-fault}
 use Rattle.planner.specs.Folds.{Folds}
 use Rattle.planner.specs.Planning.{plan-length, plan-number, Planning}
@@ -84,7 +84,7 @@ pub record WellPlanned (s : Sheet) (p : Plan) : Type 0 where
 
 -- the wire numbers of the loop in the first `len` bytes of a buffer
 abbrev pub loop-read : ℕ → List ℕ → List ℕ
-loop-read len after = tab (len / 3) (λ i. at after (3 * i + 2))
+loop-read len after = tab (len / loop-length) (λ i. at after (loop-length * i + 2))
 
 abbrev pub Among : (ℕ → Type 0) → List ℕ → Type 0
 Among P [] = ⊥

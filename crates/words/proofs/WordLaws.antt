@@ -1,14 +1,14 @@
 -- Laws of words: a residue is below its modulus, so every value of the graph is a word; two's complement there and back.
 -- Assumes nothing.
-use mathlib.Core.Path.{_≡_, refl, sym, ap, _∙_}
-use mathlib.Core.Bool.{Bool, true, false, true≢false}
+use mathlib.Core.Path.{_≡_, refl, sym, ap}
+use mathlib.Core.Bool.{true, false, true≢false}
 use mathlib.Core.Logic.{inl, inr}
 use Prim.Native.Nat.{ℕ, zero, suc, _+_, _*_, _-_, _%_, _^_, _<_, _≤_}
-use native.Mathlib.Nat.{mod-lt, mod-eq-of-lt, lt-of-lt-of-le, lt-of-le-of-lt, le-trans, mul-le-mul}
+use native.Mathlib.Nat.{mod-lt, mod-eq-of-lt, lt-of-lt-of-le}
 use native.Mathlib.Omega.{arith}
 use lib.Dec.{T, ltb, leb, leb→le, lit<}
-use lib.IntN.{ℤ, pos, negsuc, negℤ, _+ℤ_, _-ℤ_, _*ℤ_, natAbs}
-use lib.Signed.{mag, ltZ, remZ, natAbs-le}
+use lib.IntN.{ℤ, pos, negsuc, negℤ, _+ℤ_, _-ℤ_, _*ℤ_}
+use lib.Signed.{mag, ltZ, remZ}
 use mir.Syntax.{Width}
 use mir.Val.{SFits, hbits}
 use borrow.Author.Tests.{lt-ltb, le-ltb, ltb-true, ltb-false}
@@ -29,7 +29,8 @@ unfolding residue up down
 rem-up (pos a) h = absurd (let l = ltb-true (a % turn) 0 h in omega arith)
 rem-up (negsuc a) h = by-rem (suc a % turn) refl h
   where
-    by-rem : (r : ℕ) → suc a % turn ≡ r → ltZ (negℤ (pos r)) (pos 0) ≡ true → negℤ (pos r) +ℤ pos turn ≡ pos (turn - suc (a % turn))
+    by-rem : (r : ℕ) → suc a % turn ≡ r → ltZ (negℤ (pos r)) (pos 0) ≡ true →
+        negℤ (pos r) +ℤ pos turn ≡ pos (turn - suc (a % turn))
     by-rem zero e h = absurd (true≢false (sym h))
     by-rem (suc r) e h = up-eq (omega (arith, sumℤ (negsuc r) (pos turn)))
 
@@ -38,7 +39,8 @@ unfolding residue
 rem-same (pos a) h = refl
 rem-same (negsuc a) h = by-rem (suc a % turn) refl h
   where
-    by-rem : (r : ℕ) → suc a % turn ≡ r → ltZ (negℤ (pos r)) (pos 0) ≡ false → negℤ (pos r) ≡ pos (turn - suc (a % turn))
+    by-rem : (r : ℕ) → suc a % turn ≡ r → ltZ (negℤ (pos r)) (pos 0) ≡ false →
+        negℤ (pos r) ≡ pos (turn - suc (a % turn))
     by-rem zero e h = ap pos (omega arith)
     by-rem (suc r) e h = absurd (true≢false h)
 
@@ -83,31 +85,10 @@ residue-signed half a h = elim (passed? (ltb a half)) [
   | inl t ↦ rw t (mod-eq-of-lt h)
   | inr f ↦
       let l = ltb-false a half f in
-      let e : (2 * half - suc a) % (2 * half) ≡ 2 * half - suc a = mod-eq-of-lt (let q : 2 * half - suc a < 2 * half = omega arith in q) in
+      let q : 2 * half - suc a < 2 * half = omega arith in
+      let e : (2 * half - suc a) % (2 * half) ≡ 2 * half - suc a = mod-eq-of-lt q in
       rw (f, e) (omega arith)
 ]
-
--- ---- products
-
-abs-neg : (n : ℕ) → natAbs (negℤ (pos n)) ≡ n
-abs-neg zero = refl
-abs-neg (suc n) = refl
-
-abs-times : (a b : ℤ) → natAbs (a *ℤ b) ≡ natAbs a * natAbs b
-abs-times (pos a) (pos b) = refl
-abs-times (pos a) (negsuc b) = abs-neg (a * suc b)
-abs-times (negsuc a) (pos b) = abs-neg (suc a * b)
-abs-times (negsuc a) (negsuc b) = refl
-
-mag-abs : (z : ℤ) → mag z ≤ natAbs z
-mag-abs (pos a) = omega arith
-mag-abs (negsuc a) = omega arith
-
--- a product fits where the product of the factors' limits does
-pub product-fits : {w : Width} (a b : ℤ) (m n : ℕ) → mag a < m → mag b < n → m * n < 2 ^ hbits w → SFits w (a *ℤ b)
-product-fits a b m n ha hb h =
-    let l : natAbs a * natAbs b ≤ m * n = mul-le-mul (natAbs-le a ha) (natAbs-le b hb) in
-    record { sfits = lt-of-le-of-lt (le-trans (mag-abs (a *ℤ b)) (rw (abs-times a b) l)) h }
 
 -- ---- the graph's values are words
 
