@@ -2,4 +2,3 @@
 pub mod ConcatLaws
 pub mod PlanBytes
 pub mod JudgingLaws
-pub mod LaidLaws

@@ -1,5 +1,4 @@
-// Plans: the constants of their records, and a writer for each.
-pub mod writing;
+// Plans: the constants of their records.
 
 // What a plan's header says: N and the counts of units, nodes and switches.
 pub struct Plan {

@@ -1,10 +1,10 @@
--- `plans::writing::write_header` meets its contract: the parts that it writes one after the other are the record. Assumes nothing.
+-- `writing::write_header` meets its contract: the parts that it writes one after the other are the record. Assumes nothing.
 use mathlib.Core.List.{[], _∷_, _++_}
 use Rattle.records.specs.Records.{low, high}
-use Rattle.plans.proofs.LaidLaws.{laid-append}
+use Rattle.writing.proofs.LaidLaws.{laid-append}
 use borrow.Author.Needs.{needs}
-use Rattle.plans.proofs.writing.write_header.Statement.{statement}
-use Rattle.plans.proofs.writing.write_header.Tie as tie
+use Rattle.writing.proofs.write_header.Statement.{statement}
+use Rattle.writing.proofs.write_header.Tie as tie
 
 write4-requires : tie.Need-write4-requires
 write4-requires c κs = search needs

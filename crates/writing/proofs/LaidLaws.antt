@@ -9,7 +9,7 @@ use native.Mathlib.Omega.{arith}
 use lib.ListN.{length, set, take, drop, length-set}
 use lib.Seq.{sets, sets-eq}
 use Rattle.records.specs.Records.{over}
-use Rattle.plans.specs.Laid.{laid}
+use Rattle.writing.specs.Laid.{laid}
 
 pub length-laid : (l : List ℕ) (at : ℕ) (bs : List ℕ) → length (laid l at bs) ≡ length l
 unfolding laid

@@ -1,9 +1,9 @@
--- `plans::writing::write_op` meets its contract: K goes through `to_bytes16`. Assumes nothing.
+-- `writing::write_op` meets its contract: K goes through `to_bytes16`. Assumes nothing.
 use mir.Syntax.{w16}
 use mir.ValLaws.{toZ-ofZ}
 use borrow.Author.Needs.{needs}
-use Rattle.plans.proofs.writing.write_op.Statement.{statement}
-use Rattle.plans.proofs.writing.write_op.Tie as tie
+use Rattle.writing.proofs.write_op.Statement.{statement}
+use Rattle.writing.proofs.write_op.Tie as tie
 
 to-bytes16-requires : tie.Need-to-bytes16-requires
 to-bytes16-requires c κs = search needs

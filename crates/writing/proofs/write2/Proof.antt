@@ -1,12 +1,12 @@
--- `plans::writing::write2` meets its contract: the stores one after the other are the bytes laid. Assumes nothing.
+-- `writing::write2` meets its contract: the stores one after the other are the bytes laid. Assumes nothing.
 use Prim.Native.Nat.{_+_}
 use mathlib.Core.Path.{_≡_, refl}
 use native.Mathlib.Omega.{arith}
 use lib.ListN.{length-set}
-use Rattle.plans.specs.Laid.{laid}
+use Rattle.writing.specs.Laid.{laid}
 use borrow.Author.Needs.{needs}
-use Rattle.plans.proofs.writing.write2.Statement.{statement}
-use Rattle.plans.proofs.writing.write2.Tie as tie
+use Rattle.writing.proofs.write2.Statement.{statement}
+use Rattle.writing.proofs.write2.Tie as tie
 
 slice-write-out : tie.Need-slice-write-out
 slice-write-out c = search needs
