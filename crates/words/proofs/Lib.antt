@@ -1,5 +1,8 @@
 -- Laws.
+pub mod FaultLaws
+pub mod FitLaws
+pub mod FloorLaws
 pub mod Ints
 pub mod LoopLaws
-pub mod FaultLaws
-pub mod FloorLaws
+pub mod MaskLaws
+pub mod WordLaws
