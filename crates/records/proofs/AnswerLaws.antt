@@ -1,6 +1,5 @@
 -- Laws of answers: an answer's number is its first fault, and a run's first fault is that of the record it stops at. Assumes nothing.
 use mathlib.Core.Path.{_≡_, refl, sym, ap, _∙_}
-use mathlib.Core.Bool.{Bool, true, false}
 use mathlib.Core.List.{List}
 use Prim.Native.Nat.{ℕ, zero, suc, _+_, _*_, _<_, _≤_}
 use native.Mathlib.Nat.{mul-le-mul-left}
@@ -11,9 +10,14 @@ use Rattle.words.proofs.FaultLaws.{first-hit}
 use Rattle.records.specs.declared.reading.Reason.{Reason}
 use Rattle.records.specs.declared.reading.Reason.the-variants.{Length, Mark, Range, Clash, Unfed, Figures}
 use Rattle.records.specs.declared.reading.Judged.the-variants as J
+use Rattle.records.specs.declared.reading.UnitRead.{UnitRead}
+use Rattle.records.specs.declared.reading.UnitRead.the-variants as U
+use Rattle.records.specs.declared.reading.NodeRead.{NodeRead}
+use Rattle.records.specs.declared.reading.NodeRead.the-variants as N
 use Rattle.records.specs.declared.reading.Run.{Run}
-use Rattle.records.specs.Records.{marked, record-fault}
-use Rattle.records.specs.Answers.{reason-number, reason-of, answer, judged, place, RunIn}
+use Rattle.records.specs.Units.{unit-fits}
+use Rattle.records.specs.Records.{node-fits}
+use Rattle.records.specs.Answers.{reason-number, reason-of, answer, judged, place, mark-of, Inside, units-in-run, nodes-in-run, unit-fault, unit-number, unit-answer, node-fault, node-number, node-answer}
 use Rattle.records.proofs.ReadingLaws.{record-le}
 
 -- ---- reasons and their numbers
@@ -52,33 +56,27 @@ pub number-answer : {A : Type 0} (number : A → ℕ) (got : A) (refused : Reaso
 number-answer number got refused g r zero k = g
 number-answer number got refused g r (suc n) k = r (reason-of (suc n)) ∙ reason-back (suc n) (omega arith) k
 
--- ---- the answer of a record's reader
+-- the number of a reader's answer is its record's fault
+pub unit-told : (b : List ℕ) (r : Run) (i : ℕ) (a : UnitRead) → a ≡ unit-answer b r i → unit-number a ≡ unit-fault b r i
+unfolding unit-fault
+unit-told b r i a e =
+    let l = record-le b (place r i) (mark-of r) (unit-fits (units-in-run b r i)) in
+    ap unit-number e ∙ number-answer unit-number _ U.Refused refl (λ _. refl) (unit-fault b r i) (omega arith)
 
-module _ {A : Type 0} (got : A) (refused : Reason → A) (b : List ℕ) (o : ℕ) (m : List ℕ) (fits : Bool) where
-  pub mark-wrong : marked b o m ≡ false → refused Mark ≡ answer got refused (record-fault b o m fits)
-  unfolding reason-of
-  mark-wrong e = rw e
+pub node-told : (b : List ℕ) (fold : ℕ) (us r : Run) (i : ℕ) (a : NodeRead) → a ≡ node-answer b fold us r i → node-number a ≡ node-fault b fold us r i
+unfolding node-fault
+node-told b fold us r i a e =
+    let l = record-le b (place r i) (mark-of r) (node-fits fold (us .count) (units-in-run b us) (nodes-in-run b r i)) in
+    ap node-number e ∙ number-answer node-number _ N.Refused refl (λ _. refl) (node-fault b fold us r i) (omega arith)
 
-  pub range-wrong : marked b o m ≡ true → fits ≡ false → refused Range ≡ answer got refused (record-fault b o m fits)
-  unfolding reason-of
-  range-wrong e f = rw (e, f)
-
-  pub all-right : marked b o m ≡ true → fits ≡ true → got ≡ answer got refused (record-fault b o m fits)
-  all-right e f = rw (e, f)
-
-  -- the number of the answer is the record's fault
-  pub record-number : (number : A → ℕ) → number got ≡ 0 → ((why : Reason) → number (refused why) ≡ reason-number why) → (a : A) →
-      a ≡ answer got refused (record-fault b o m fits) → number a ≡ record-fault b o m fits
-  record-number number g r a e = ap number e ∙ number-answer number got refused g r (record-fault b o m fits) (let l = record-le b o m fits in omega arith)
+-- ---- runs
 
 -- a run is refused as the record at which it stops
 pub run-refused : (n i : ℕ) (f : ℕ → ℕ) (why : Reason) → i < n → first i f ≡ 0 → f i ≡ reason-number why → judged (f i) ≡ judged (first n f)
 run-refused n i f why l h e = ap judged (sym (first-hit n i f l h (let p = reason-positive why in omega arith)))
 
--- ---- places in a run
-
-module _ (n : ℕ) (r : Run) (b : List ℕ) (h : RunIn n r b) where
-  pub in-run : (i : ℕ) → i < r .count → place r i + n ≤ length b
-  in-run i l =
-      let m : r .size * suc i ≤ r .size * r .count = mul-le-mul-left (r .size) l in
-      omega (arith, h .wide, h .inside)
+-- a record of a run lies in the bytes
+pub in-run : (n : ℕ) (r : Run) (b : List ℕ) (i : ℕ) → Inside n r b → i < r .count → place r i + n ≤ length b
+in-run n r b i h l =
+    let m : r .size * suc i ≤ r .size * r .count = mul-le-mul-left (r .size) l in
+    omega (arith, h .wide, h .ends)

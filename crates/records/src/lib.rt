@@ -1,6 +1,6 @@
 // What sheets and plans share: units and ops with their limits, a node's own fields, and below it the reading of their records.
 ghost use mathlib.Core.Path.{_≡_};
-ghost use Rattle.records.specs.Units.{kind-of, inputs, k-least, k-most, k-fits, unit-fits};
+ghost use Rattle.records.specs.Units.{kind-of, inputs, k-least, k-most, k-fits, unit-fits, value};
 
 pub mod reading;
 
@@ -118,4 +118,25 @@ pub struct Node {
     pub slot: u8,
     pub op: u8,
     pub k: i16,
+}
+
+impl Node {
+    pub fn new(unit: u8, slot: u8, op: u8, k: i16) -> Self
+        ensures { λ r. ⌜ r ≡ record { unit = unit; slot = slot; op = op; k = k } ⌝ }
+    {
+        Self { unit, slot, op, k }
+    }
+}
+
+// What an op gives, of its K, its channel's sample and the words at its inputs 0 and 1.
+pub fn value(op: u8, k: i16, sample: u32, a: u32, b: u32) -> u32
+    ensures { λ r. ⌜ r ≡ value op k sample a b ⌝ }
+{
+    match op {
+        Unit::OP_PORT => sample,
+        Unit::OP_SUM => words::sum(a, b),
+        Unit::OP_DIFFERENCE => words::difference(a, b),
+        Unit::OP_SCALE => words::scale(k, a),
+        _ => 0,
+    }
 }

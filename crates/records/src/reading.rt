@@ -1,13 +1,15 @@
-// Records read where they stand, and the first fault of a run of them.
+// Records read where they stand, each reader's answer an enum, and the first fault of a run of records handed up. Sheets and
+// plans are read by the same functions: marks, lengths and places are parameters.
 ghost use mathlib.Core.Path.{_≡_};
 ghost use mathlib.Core.List.{[], _∷_};
-ghost use Prim.Native.Nat.{ℕ, _+_, _*_, _^_, _<_, _≤_};
+ghost use Prim.Native.Nat.{_+_, _^_, _<_, _≤_};
 ghost use lib.ListN.{length};
-ghost use Rattle.records.specs.Records.{between, marked, unit-at};
-ghost use Rattle.records.specs.Answers.{header-fits, header-in, place, mark-of, judged, unit-number, unit-answer, header-answer, units-fault, RunIn};
+ghost use Rattle.records.specs.Records.{two, between, marked, unit-at, node-at, node-fits};
+ghost use Rattle.records.specs.Answers.{judged, header-part, unit-part, node-part, header-in, header-fits, header-answer, place, units-in-run, Inside, unit-number, unit-answer, units-fault, node-number, node-answer, nodes-fault};
+use crate::Node;
 use crate::Unit;
 
-// Why bytes are refused: one case for each number of 01.
+// Why bytes are refused: a case for each of the numbers 1 to 5 and 9.
 pub enum Reason {
     Length,
     Mark,
@@ -17,13 +19,13 @@ pub enum Reason {
     Figures,
 }
 
-// What judging a part gives.
+// What judging a part of the bytes answers.
 pub enum Judged {
     Passed,
     Refused(Reason),
 }
 
-// What a header says: N and the counts of units, nodes and wires.
+// What a header says: N and the numbers of units, nodes and wires.
 pub struct Header {
     pub fold: u8,
     pub units: u8,
@@ -51,13 +53,13 @@ impl Header {
         }
     }
 
-    // Whether N and the counts lie in their ranges.
+    // Whether N and the numbers lie in their ranges.
     pub fn fits(self) -> bool
         ensures { λ r. ⌜ r ≡ header-fits self ⌝ }
     {
-        within(self.fold, Self::MOST_FOLD)
-            & within(self.units, Self::MOST_UNITS)
-            & within(self.nodes, Self::MOST_NODES)
+        ((1 <= self.fold) & (self.fold <= Self::MOST_FOLD))
+            & ((1 <= self.units) & (self.units <= Self::MOST_UNITS))
+            & ((1 <= self.nodes) & (self.nodes <= Self::MOST_NODES))
             & (self.wires <= Self::MOST_WIRES)
     }
 }
@@ -67,7 +69,33 @@ pub enum HeaderRead {
     Refused(Reason),
 }
 
-// A run of records of one sort: where it begins, the length of each, how many there are, and their mark.
+// The header at the front of b: length, then mark, then ranges.
+pub fn read_header(b: &[u8], size: usize, first: u8, second: u8) -> HeaderRead
+    requires { ⌜ header-part ≤ size ⌝ }
+    ensures { λ r. ⌜ r ≡ header-answer (now (b .entry)) size (first ∷ second ∷ []) ⌝ }
+{
+    if b.len() < size {
+        return HeaderRead::Refused(Reason::Length);
+    }
+    if !marked(b, 0, first, second) {
+        return HeaderRead::Refused(Reason::Mark);
+    }
+    let header = header_in(b);
+    if header.fits() {
+        HeaderRead::Got(header)
+    } else {
+        HeaderRead::Refused(Reason::Range)
+    }
+}
+
+fn header_in(b: &[u8]) -> Header
+    requires { ⌜ header-part ≤ length (now b) ⌝ }
+    ensures { λ r. ⌜ r ≡ header-in (now (b .entry)) ⌝ }
+{
+    Header::new(b[2], b[3], b[4], b[5])
+}
+
+// A run of records of one sort: where it begins, the length of each, how many they are, and their mark.
 pub struct Run {
     pub at: usize,
     pub size: usize,
@@ -86,31 +114,42 @@ impl Run {
     }
 }
 
+// Whether a mark stands at a place.
+pub fn marked(b: &[u8], at: usize, first: u8, second: u8) -> bool
+    requires { ⌜ at + 2 ≤ length (now b) ⌝ }
+    ensures { λ r. ⌜ r ≡ marked (now (b .entry)) at (first ∷ second ∷ []) ⌝ }
+{
+    (b[at] == first) & (b[at + 1] == second)
+}
+
+// A field of two bytes.
+pub fn two_at(b: &[u8], at: usize) -> u16
+    requires { ⌜ at + 2 ≤ length (now b) ⌝ }
+    ensures { λ r. ⌜ r ≡ two (now (b .entry)) at ⌝ }
+{
+    b[at] as u16 + 256 * (b[at + 1] as u16)
+}
+
 pub enum UnitRead {
     Got(Unit),
     Refused(Reason),
 }
 
-pub fn read_units(b: &[u8], run: Run) -> Judged
-    requires { ⌜ RunIn 4 run (now b) ⌝ }
-    ensures { λ r. ⌜ r ≡ judged (units-fault (now (b .entry)) run) ⌝ }
+// The unit at a place.
+pub fn unit_at(b: &[u8], at: usize) -> Unit
+    requires { ⌜ at + unit-part ≤ length (now b) ⌝ }
+    ensures { λ r. ⌜ r ≡ unit-at (now (b .entry)) at ⌝ }
 {
-    let mut i = 0;
-    while i < run.count {
-        let got = read_unit(b, run.place(i), run.first, run.second);
-        let UnitRead::Got(_) = got else {
-            return unit_refusal(got);
-        };
-        i += 1;
-    }
-    Judged::Passed
+    Unit::new(b[at + 2], b[at + 3])
 }
 
-pub fn read_unit(b: &[u8], at: usize, first: u8, second: u8) -> UnitRead
-    requires { ⌜ at + 4 ≤ length (now b) ⌝ }
-    ensures { λ r. ⌜ r ≡ unit-answer (now (b .entry)) at (first ∷ second ∷ []) ⌝ }
+pub fn read_unit(b: &[u8], units: Run, i: usize) -> UnitRead
+    requires { ⌜ Inside unit-part units (now b) ⌝ }
+    requires { ⌜ i < units .count ⌝ }
+    ensures { λ r. ⌜ r ≡ unit-answer (now (b .entry)) units i ⌝ }
 {
-    if !marked(b, at, first, second) {
+    let at = units.place(i);
+    if !marked(b, at, units.first, units.second) {
         return UnitRead::Refused(Reason::Mark);
     }
     let unit = unit_at(b, at);
@@ -121,7 +160,7 @@ pub fn read_unit(b: &[u8], at: usize, first: u8, second: u8) -> UnitRead
     }
 }
 
-fn unit_refusal(got: UnitRead) -> Judged
+fn unit_judged(got: UnitRead) -> Judged
     ensures { λ r. ⌜ r ≡ judged (unit-number got) ⌝ }
 {
     match got {
@@ -130,50 +169,92 @@ fn unit_refusal(got: UnitRead) -> Judged
     }
 }
 
-pub fn unit_at(b: &[u8], at: usize) -> Unit
-    requires { ⌜ at + 4 ≤ length (now b) ⌝ }
-    ensures { λ r. ⌜ r ≡ unit-at (now (b .entry)) at ⌝ }
+// The first fault of the units.
+pub fn judge_units(b: &[u8], units: Run) -> Judged
+    requires { ⌜ Inside unit-part units (now b) ⌝ }
+    ensures { λ r. ⌜ r ≡ judged (units-fault (now (b .entry)) units) ⌝ }
 {
-    Unit::new(b[at + 2], b[at + 3])
-}
-
-// Whether a record's mark stands at a place.
-pub fn marked(b: &[u8], at: usize, first: u8, second: u8) -> bool
-    requires { ⌜ at + 2 ≤ length (now b) ⌝ }
-    ensures { λ r. ⌜ r ≡ marked (now (b .entry)) at (first ∷ second ∷ []) ⌝ }
-{
-    (b[at] == first) & (b[at + 1] == second)
-}
-
-// Whether a count is 1 to `most`.
-fn within(count: u8, most: u8) -> bool
-    ensures { λ r. ⌜ r ≡ between 1 count most ⌝ }
-{
-    (1 <= count) & (count <= most)
-}
-
-fn header_in(b: &[u8]) -> Header
-    requires { ⌜ 6 ≤ length (now b) ⌝ }
-    ensures { λ r. ⌜ r ≡ header-in (now (b .entry)) ⌝ }
-{
-    Header::new(b[2], b[3], b[4], b[5])
-}
-
-// The header at the front of b, which is `size` bytes long.
-pub fn read_header(b: &[u8], size: usize, first: u8, second: u8) -> HeaderRead
-    requires { ⌜ 6 ≤ size ⌝ }
-    ensures { λ r. ⌜ r ≡ header-answer (now (b .entry)) size (first ∷ second ∷ []) ⌝ }
-{
-    if b.len() < size {
-        return HeaderRead::Refused(Reason::Length);
+    let mut i = 0;
+    while i < units.count {
+        let got = read_unit(b, units, i);
+        let UnitRead::Got(_) = got else {
+            return unit_judged(got);
+        };
+        i += 1;
     }
-    if !marked(b, 0, first, second) {
-        return HeaderRead::Refused(Reason::Mark);
+    Judged::Passed
+}
+
+pub enum NodeRead {
+    Got(Node),
+    Refused(Reason),
+}
+
+// The node at a place.
+pub fn node_at(b: &[u8], at: usize) -> Node
+    requires { ⌜ at + node-part ≤ length (now b) ⌝ }
+    ensures { λ r. ⌜ r ≡ node-at (now (b .entry)) at ⌝ }
+{
+    let k = words::two_complement(two_at(b, at + 5));
+    Node::new(b[at + 2], b[at + 3], b[at + 4], k)
+}
+
+// Whether a node's fields lie in their ranges, its op on a unit of its kind.
+fn node_fits(b: &[u8], fold: u8, units: Run, n: Node) -> bool
+    requires { ⌜ Inside unit-part units (now b) ⌝ }
+    ensures { λ r. ⌜ r ≡ node-fits fold (units .count) (units-in-run (now (b .entry)) units) n ⌝ }
+{
+    let q = n.unit as usize;
+    if units.count <= q {
+        return false;
     }
-    let header = header_in(b);
-    if header.fits() {
-        HeaderRead::Got(header)
+    let unit = unit_at(b, units.place(q));
+    (n.slot < fold)
+        & (n.op <= Unit::LAST_OP)
+        & (unit.kind == Unit::kind_of(n.op))
+        & Unit::k_fits(n.op, n.k)
+}
+
+pub fn read_node(b: &[u8], fold: u8, units: Run, nodes: Run, i: usize) -> NodeRead
+    requires { ⌜ Inside unit-part units (now b) ⌝ }
+    requires { ⌜ Inside node-part nodes (now b) ⌝ }
+    requires { ⌜ i < nodes .count ⌝ }
+    ensures { λ r. ⌜ r ≡ node-answer (now (b .entry)) fold units nodes i ⌝ }
+{
+    let at = nodes.place(i);
+    if !marked(b, at, nodes.first, nodes.second) {
+        return NodeRead::Refused(Reason::Mark);
+    }
+    let node = node_at(b, at);
+    if node_fits(b, fold, units, node) {
+        NodeRead::Got(node)
     } else {
-        HeaderRead::Refused(Reason::Range)
+        NodeRead::Refused(Reason::Range)
     }
+}
+
+fn node_judged(got: NodeRead) -> Judged
+    ensures { λ r. ⌜ r ≡ judged (node-number got) ⌝ }
+{
+    match got {
+        NodeRead::Got(_) => Judged::Passed,
+        NodeRead::Refused(why) => Judged::Refused(why),
+    }
+}
+
+// The first fault of the nodes.
+pub fn judge_nodes(b: &[u8], fold: u8, units: Run, nodes: Run) -> Judged
+    requires { ⌜ Inside unit-part units (now b) ⌝ }
+    requires { ⌜ Inside node-part nodes (now b) ⌝ }
+    ensures { λ r. ⌜ r ≡ judged (nodes-fault (now (b .entry)) fold units nodes) ⌝ }
+{
+    let mut i = 0;
+    while i < nodes.count {
+        let got = read_node(b, fold, units, nodes, i);
+        let NodeRead::Got(_) = got else {
+            return node_judged(got);
+        };
+        i += 1;
+    }
+    Judged::Passed
 }

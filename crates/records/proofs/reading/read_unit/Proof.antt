@@ -1,41 +1,63 @@
 -- `records::reading::read_unit` meets its contract: the mark's fault stands before the range's. Assumes nothing.
 use mathlib.Core.Path.{_≡_, sym, ap, _∙_}
 use mathlib.Core.Bool.{true}
-use mathlib.Core.List.{[], _∷_}
+use Prim.Native.Nat.{_+_, _≤_}
+use lib.ListN.{length}
 use borrow.Author.Needs.{needs}
+use native.Mathlib.Omega.{arith}
 use Rattle.words.proofs.FaultLaws.{not-true, not-false}
 use Rattle.records.specs.Units.{unit-fits}
-use Rattle.records.specs.Records.{marked, unit-at}
-use Rattle.records.specs.Answers.{reason-of}
+use Rattle.records.specs.Records.{marked}
+use Rattle.records.specs.Answers.{reason-of, unit-part, place, mark-of, units-in-run, unit-fault}
+use Rattle.records.proofs.AnswerLaws.{in-run}
 use Rattle.records.proofs.reading.read_unit.Statement.{statement}
 use Rattle.records.proofs.reading.read_unit.Tie as tie
 
+room : (c : tie.Start) → place (c .args .units) (c .args .i) + unit-part ≤ length (c .args .b .now)
+room c = in-run unit-part _ _ (c .args .i) (c .pre .0) (c .pre .1)
+
+place-requires : tie.Need-place-requires
+place-requires c κs = let h = room (c .before) in search needs
+
 marked-requires : tie.Need-marked-requires
-marked-requires c κs = search needs
+marked-requires c κs = let h = room (c .before .before) in omega (arith, c .place .ensures)
+
+told : (c : tie.After-marked) → c .marked .result ≡ marked (c .before .before .before .args .b .now) (place (c .before .before .before .args .units) (c .before .before .before .args .i)) (mark-of (c .before .before .before .args .units))
+told c = rw (c .before .place .ensures) at (c .marked .ensures)
 
 returns : tie.Need-returns
-unfolding reason-of
-returns c = simp (sym (c .before .marked .ensures) ∙ not-true _ (c .if1 .taken))
+unfolding reason-of unit-fault
+returns c = simp (sym (told (c .before)) ∙ not-true _ (c .if1 .taken))
 
 unit-at-requires : tie.Need-unit-at-requires
-unit-at-requires c κs = search needs
+unit-at-requires c κs = rw (c .before .before .place .ensures) (room (c .before .before .before .before))
 
 fits-requires : tie.Need-fits-requires
 fits-requires c κs = search needs
 
-right : (c : tie.Else1) → marked (c .before .before .before .args .b .now) (c .before .before .before .args .at) (c .before .before .before .args .first ∷ c .before .before .before .args .second ∷ []) ≡ true
-right c = sym (c .before .marked .ensures) ∙ not-false _ (c .if1 .left)
-
-in-range : (c : tie.After-fits2) → c .fits2 .result ≡ unit-fits (unit-at (c .before .before .before .before .before .args .b .now) (c .before .before .before .before .before .args .at))
-in-range c = c .fits2 .ensures ∙ ap unit-fits (c .before .unit-at .ensures)
+got : (c : tie.After-unit-at) → c .unit-at .result ≡ units-in-run (c .before .before .before .before .before .args .b .now) (c .before .before .before .before .before .args .units) (c .before .before .before .before .before .args .i)
+got c = rw (c .before .before .before .place .ensures) at (c .unit-at .ensures)
 
 returns-2 : tie.Need-returns-2
-returns-2 c = simp (right (c .before .before .before), c .before .before .unit-at .ensures, sym (in-range (c .before)) ∙ c .if2 .taken)
+unfolding unit-fault
+returns-2 c =
+    let u = got (c .before .before) in
+    simp (sym (told (c .before .before .before .before)) ∙ not-false _ (c .before .before .before .if1 .left), u, sym (c .before .fits2 .ensures ∙ ap unit-fits u) ∙ c .if2 .taken)
 
 returns-3 : tie.Need-returns-3
-unfolding reason-of
-returns-3 c = simp (right (c .before .before .before), sym (in-range (c .before)) ∙ c .if2 .left)
+unfolding reason-of unit-fault
+returns-3 c =
+    let u = got (c .before .before) in
+    simp (sym (told (c .before .before .before .before)) ∙ not-false _ (c .before .before .before .if1 .left), sym (c .before .fits2 .ensures ∙ ap unit-fits u) ∙ c .if2 .left)
 
 pub read-unit-spec : {M : Type 1} → statement M
 read-unit-spec =
-    tie.close (tie.spec marked-requires returns unit-at-requires fits-requires returns-2 returns-3)
+    tie.close
+    (tie.spec
+    place-requires
+    marked-requires
+    returns
+    unit-at-requires
+    fits-requires
+    returns-2
+    returns-3)
