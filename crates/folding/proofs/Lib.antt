@@ -7,3 +7,4 @@ pub mod StartLaws
 pub mod FoldingLaws
 pub mod LiveLaws
 pub mod SizeLaws
+pub mod WaitingLaws

@@ -32,9 +32,11 @@ registers s r = largest (s .fold) (live s r)
 
 -- ---- what the figure means
 
--- the word of node u of iteration l waits at cycle t: it has left its unit and is still to be read
+-- the word of node u of iteration l leaves its unit at cycle Nl+u+P, and waits until it has been read for the last time
 abbrev pub waits-at : Sheet → (ℕ → ℕ) → ℕ → ℕ → ℕ → Bool
-waits-at s r t u l = leb (s .fold * l + first-live s u) t && leb t (s .fold * l + last-live s r u)
+waits-at s r t u l =
+    let left = s .fold * l + (node-of s u .slot + depth-of s u) in
+    ltb left t && leb t (left + longest-wait s r u)
 
 -- how many words wait at cycle t. A word of an iteration above t has not begun
 unfoldable pub waiting : Sheet → (ℕ → ℕ) → ℕ → ℕ

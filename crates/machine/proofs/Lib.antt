@@ -1,1 +1,3 @@
 -- Laws.
+pub mod MemoryLaws
+pub mod SteppingLaws

@@ -80,3 +80,8 @@ stepped p m c = suc (at m 0) ∷ (blocks (moved p m c) (length (p .units)) ++ dr
 -- "place P−1 is the word leaving now", "the leaving words go to the output, one per unit"
 unfoldable pub leaving : Plan → List ℕ → List ℕ
 leaving p m = tab (length (p .units)) (λ q. reading p m q 0)
+
+-- the memory before cycle t, stepped from cleared memory on; `hand t` are the channels' words at cycle t
+unfoldable pub run : Plan → List ℕ → (ℕ → List ℕ) → ℕ → List ℕ
+run p m hand zero = cleared p m
+run p m hand (suc t) = stepped p (run p m hand t) (hand t)

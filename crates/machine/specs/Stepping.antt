@@ -1,5 +1,6 @@
 -- What clear and step answer and what they leave in the lent slices, for all bytes as a plan, memories m, channel words c and
 -- outputs o: 01, "Refusal numbers". Assumes nothing.
+use mathlib.Core.Path.{_≡_}
 use mathlib.Core.Bool.{not, cond, _&&_}
 use mathlib.Core.List.{List}
 use Prim.Native.Nat.{ℕ}
@@ -35,3 +36,14 @@ step-memory b m c o = cond (eqb (step-number b m c o) 0) (stepped (plan-read b) 
 
 unfoldable pub step-output : List ℕ → List ℕ → List ℕ → List ℕ → List ℕ
 step-output b m c o = cond (eqb (step-number b m c o) 0) (over (leaving (plan-read b) m) o) o
+
+-- clear may answer `number` on the plan b, and leave `after` where the memory m was lent
+pub record Clearing (b m : List ℕ) (number : ℕ) (after : List ℕ) : Type 0 where
+  pub number-is : number ≡ clear-number b m
+  pub memory-is : after ≡ clear-memory b m
+
+-- step may answer `number` on the plan b with the channels' words c, and leave `after` and `out` where m and o were lent
+pub record Stepping (b m c o : List ℕ) (number : ℕ) (after out : List ℕ) : Type 0 where
+  pub number-is : number ≡ step-number b m c o
+  pub memory-is : after ≡ step-memory b m c o
+  pub output-is : out ≡ step-output b m c o

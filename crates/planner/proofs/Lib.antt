@@ -1,1 +1,6 @@
 -- Laws.
+pub mod PlanLaws
+pub mod FoldsLaws
+pub mod PlanPasses
+pub mod PassedPlan
+pub mod PlanningLaws

@@ -10,7 +10,7 @@ use Rattle.records.specs.Records.{over, whole-length}
 use Rattle.sheets.specs.Sheet.{sheet-of, sheet-fault}
 use Rattle.folding.specs.Walks.{Loop, foldable}
 use Rattle.folding.specs.Folding.{net}
-use Rattle.plans.specs.Plan.{plan-format, plan-bytes, loop-bytes}
+use Rattle.plans.specs.Plan.{plan-format, plan-bytes, loop-length, loop-bytes}
 use Rattle.planner.specs.PlanOf.{plan-of}
 
 -- the length of the plan that a sheet's header asks for
@@ -34,7 +34,7 @@ pub record LoopShown (b before : List ℕ) (len : ℕ) (after : List ℕ) : Type
   pub wire : ℕ
   pub wires : List ℕ
   pub loop : Loop (net (sheet-of b)) wire wires
-  pub length-is : len ≡ 3 * suc (length wires)
+  pub length-is : len ≡ loop-length * suc (length wires)
   pub left : after ≡ over (loop-bytes (wire ∷ wires)) before
 
 -- the planner may answer `number` and `len` on the sheet b, and leave `after` where the buffer `before` was lent

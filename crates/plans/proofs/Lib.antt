@@ -1,1 +1,4 @@
 -- Laws.
+pub mod ConcatLaws
+pub mod PlanBytes
+pub mod JudgingLaws

@@ -100,6 +100,9 @@ plan-bytes p = header-bytes p ++ (concat unit-bytes (p .units) ++ (concat node-b
 abbrev pub loop-mark : List ℕ
 loop-mark = 80 ∷ 87 ∷ []
 
+abbrev pub loop-length : ℕ
+loop-length = 3
+
 unfoldable pub loop-bytes : List ℕ → List ℕ
 loop-bytes = concat (λ e. loop-mark ++ (e ∷ []))
 

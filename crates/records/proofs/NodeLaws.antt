@@ -5,17 +5,19 @@ use mathlib.Core.Bool.{Bool, true, false, _&&_, _||_, true≢false}
 use Prim.Native.Nat.{ℕ, _<_, _≤_}
 use native.Mathlib.Decide.{ℕ-discrete}
 use native.Mathlib.Omega.{arith}
-use lib.Dec.{ltb, leb, eqb}
-use lib.IntN.{natAbs}
-use lib.Signed.{leZ, _≤ℤ_}
+use lib.Dec.{ltb, leb, eqb, lit<}
+use lib.IntN.{ℤ, pos, negsuc, natAbs}
+use lib.Signed.{mag, leZ, _≤ℤ_, ≤ℤ-refl}
 use borrow.Author.Tests.{ltb-true, ltb-false, leb-true, eqb-true, eq-eqb}
 use Rattle.words.specs.Loops.{some-of}
-use Rattle.words.proofs.Ints.{leZ-true}
+use Rattle.words.specs.Words.{turn}
+use Rattle.words.proofs.Ints.{up, down, le-up, leZ-true, ≤ℤ-trans}
+use Rattle.words.proofs.WordLaws.{sum-below, difference-below, scale-below}
 use Rattle.words.proofs.LoopLaws.{passed?, and-split}
 use Rattle.words.proofs.FaultLaws.{or-split, none-of}
 use Rattle.records.specs.declared.Unit.{Unit}
 use Rattle.records.specs.declared.Node.{Node}
-use Rattle.records.specs.Units.{op-port, last-op, kind-of, multiplier, least-depth, most-depth, k-least, k-most, k-fits, unit-fits}
+use Rattle.records.specs.Units.{op-port, op-sum, op-difference, op-scale, last-op, value, kind-of, multiplier, least-depth, most-depth, k-least, k-most, k-fits, unit-fits}
 use Rattle.records.specs.Records.{node-fits, clash, clashes}
 
 pub record UnitFits (u : Unit) : Type 0 where
@@ -84,3 +86,37 @@ module _ (n : ℕ) (node : ℕ → Node) (free : clashes n node ≡ false) where
       | inr g ↦ absurd (ordered-apart y x (let l = ltb-false x y g in omega arith) hx (sym u) (sym v))
     ]
   ]
+
+-- ---- K and values
+
+-- every K fits two bytes
+pub k-narrow : (op : ℕ) (k : ℤ) → k-least op ≤ℤ k → k ≤ℤ k-most op → mag k < 32768
+unfolding up down
+k-narrow op k l m = by-sign k l m
+  where
+    most : k-most op ≤ℤ pos 32767
+    most = elim (passed? (eqb op op-port)) [
+      | inl t ↦ rw t (leZ-true (pos 15) (pos 32767) refl)
+      | inr f ↦ elim (passed? (eqb op op-scale)) [ inl t ↦ rw (f, t) (≤ℤ-refl (pos 32767)) | inr g ↦ rw (f, g) (leZ-true (pos 0) (pos 32767) refl) ]
+    ]
+
+    least : negsuc 32767 ≤ℤ k-least op
+    least = elim (passed? (eqb op op-scale)) [ inl t ↦ rw t (≤ℤ-refl (negsuc 32767)) | inr f ↦ rw f (leZ-true (negsuc 32767) (pos 0) refl) ]
+
+    by-sign : (k : ℤ) → k-least op ≤ℤ k → k ≤ℤ k-most op → mag k < 32768
+    by-sign (pos n) l m = omega (arith, le-up (≤ℤ-trans m most))
+    by-sign (negsuc n) l m = omega (arith, le-up (≤ℤ-trans least l))
+
+-- every word that an op gives is below 2^32
+pub value-below : (op : ℕ) (k : ℤ) (sample a b : ℕ) → sample < turn → value op k sample a b < turn
+unfolding value
+value-below op k sample a b h = elim (passed? (eqb op op-port)) [
+  | inl t ↦ rw t h
+  | inr f ↦ elim (passed? (eqb op op-sum)) [
+    | inl t ↦ rw (f, t) (sum-below a b)
+    | inr g ↦ elim (passed? (eqb op op-difference)) [
+      | inl t ↦ rw (f, g, t) (difference-below a b)
+      | inr i ↦ elim (passed? (eqb op op-scale)) [ inl t ↦ rw (f, g, i, t) (scale-below k a) | inr j ↦ rw (f, g, i, j) (lit< tt) ]
+    ]
+  ]
+]

@@ -95,7 +95,3 @@ none-of (suc n) p h i l =
 pub not-true : (t : Bool) → not t ≡ true → t ≡ false
 not-true true h = sym h
 not-true false h = refl
-
-pub not-false : (t : Bool) → not t ≡ false → t ≡ true
-not-false true h = refl
-not-false false h = sym h

@@ -3,8 +3,7 @@ use mathlib.Core.Path.{_≡_, sym, ap, _∙_}
 use mathlib.Core.Bool.{true}
 use mathlib.Core.List.{[], _∷_}
 use borrow.Author.Needs.{needs}
-use borrow.Author.Tests.{lt-leb, le-leb}
-use Rattle.words.proofs.FaultLaws.{not-true, not-false}
+use borrow.Author.Tests.{lt-leb, le-leb, not-true, not-false}
 use Rattle.records.specs.Records.{marked, counts-fit}
 use Rattle.records.specs.Answers.{reason-of, header-fits, header-answer}
 use Rattle.records.proofs.reading.read_header.Statement.{statement}

@@ -4,8 +4,8 @@ use mathlib.Core.Bool.{true}
 use Prim.Native.Nat.{_+_, _≤_}
 use lib.ListN.{length}
 use borrow.Author.Needs.{needs}
+use borrow.Author.Tests.{not-true, not-false}
 use native.Mathlib.Omega.{arith}
-use Rattle.words.proofs.FaultLaws.{not-true, not-false}
 use Rattle.records.specs.Records.{marked, node-fits}
 use Rattle.records.specs.Answers.{reason-of, node-part, place, mark-of, units-in-run, nodes-in-run, node-fault}
 use Rattle.records.proofs.AnswerLaws.{in-run}

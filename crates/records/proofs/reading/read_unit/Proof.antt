@@ -4,8 +4,8 @@ use mathlib.Core.Bool.{true}
 use Prim.Native.Nat.{_+_, _≤_}
 use lib.ListN.{length}
 use borrow.Author.Needs.{needs}
+use borrow.Author.Tests.{not-true, not-false}
 use native.Mathlib.Omega.{arith}
-use Rattle.words.proofs.FaultLaws.{not-true, not-false}
 use Rattle.records.specs.Units.{unit-fits}
 use Rattle.records.specs.Records.{marked}
 use Rattle.records.specs.Answers.{reason-of, unit-part, place, mark-of, units-in-run, unit-fault}

@@ -1,0 +1,98 @@
+-- What shuts out each wrong program that 01 names: a planner that refuses everything or gives one plan for all sheets, a step that
+-- does nothing, works only at cycle 0 or keeps its memory for show, a made-up chain or register figure. Assumes nothing.
+use mathlib.Core.Path.{_≡_, refl, sym, ap, _∙_}
+use mathlib.Core.List.{List, [], _∷_}
+use Prim.Native.Nat.{ℕ, suc, _<_, _≤_}
+use native.Mathlib.Omega.{arith}
+use lib.ListN.{length, take, replicate}
+use Rattle.words.specs.Loops
+use Rattle.words.specs.Words
+use Rattle.records.specs.Units
+use Rattle.records.specs.Records
+use Rattle.sheets.specs.Sheet
+use Rattle.folding.specs.Walks
+use Rattle.folding.specs.Folding
+use Rattle.folding.specs.Lifetime
+use Rattle.plans.specs.Plan
+use Rattle.plans.specs.Judging
+use Rattle.planner.specs.PlanOf
+use Rattle.planner.specs.Planning
+use Rattle.records.specs.Records.{at}
+use Rattle.sheets.specs.Sheet.{sheet-of}
+use Rattle.folding.specs.Latest.{IsChain}
+use Rattle.folding.specs.Folding.{net}
+use Rattle.folding.specs.Lifetime.{registers}
+use Rattle.plans.specs.Plan.{Plan, node-in, plan-read, plan-bytes}
+use Rattle.planner.specs.PlanOf.{plan-of}
+use Rattle.planner.specs.Planning.{plan-number, Planning}
+use Rattle.machine.specs.Cycle
+use Rattle.machine.specs.Cycle.{size, places, place, stepped}
+use Rattle.machine.specs.Stepping
+use Rattle.machine.specs.Stepping.{step-number, step-memory, Stepping}
+use Rattle.machine.proofs.MemoryLaws.{older}
+use Rattle.machine.proofs.SteppingLaws.{step-does}
+use Rattle.demands.specs.Cases
+use Rattle.demands.specs.Cases.{loop-of-two, loop-of-one}
+use Rattle.demands.specs.Demands.{Bytes}
+use Rattle.demands.proofs.DemandTwo.{demand-2}
+
+-- a buffer with room for the plan of case 9
+unfoldable pub room : List ℕ
+room = replicate 57 0
+
+pub case-9-number : plan-number (loop-of-two 1) (length room) ≡ 0
+unfolding room Cases.loop-of-two Loops.tab Loops.every Loops.some-of Loops.total Loops.largest Loops.count Loops.lowest Loops.first Words.floor Words.residue Words.signed Words.sum Words.difference Words.scale Units.value Records.reading-fault Records.clashes Records.occupied Records.fed-once Sheet.sheet-of Sheet.sheet-faults Walks.minℤ Walks.better Walks.next Walks.row Walks.settled Walks.settles Walks.chain Walks.foldable Walks.deepest Walks.starts Folding.raw Folding.bound Folding.wait Folding.tap Lifetime.longest-wait Lifetime.falls Lifetime.live Lifetime.registers Plan.concat Plan.plan-bytes Plan.plan-read Judging.longest-tap Judging.figures-right Judging.plan-faults PlanOf.plan-of Planning.plan-number
+case-9-number = refl
+
+-- a planner that refuses everything: no refusal is admitted on case 9
+pub no-constant-refusal : (number len : ℕ) (after : List ℕ) → Planning (loop-of-two 1) room number len after → number ≡ 0
+no-constant-refusal number len after p = p .number-is ∙ case-9-number
+
+case-11-number : plan-number (loop-of-one 1) (length room) ≡ 0
+unfolding room Cases.loop-of-one Loops.tab Loops.every Loops.some-of Loops.total Loops.largest Loops.count Loops.lowest Loops.first Words.floor Words.residue Words.signed Words.sum Words.difference Words.scale Units.value Records.reading-fault Records.clashes Records.occupied Records.fed-once Sheet.sheet-of Sheet.sheet-faults Walks.minℤ Walks.better Walks.next Walks.row Walks.settled Walks.settles Walks.chain Walks.foldable Walks.deepest Walks.starts Folding.raw Folding.bound Folding.wait Folding.tap Lifetime.longest-wait Lifetime.falls Lifetime.live Lifetime.registers Plan.concat Plan.plan-bytes Plan.plan-read Judging.longest-tap Judging.figures-right Judging.plan-faults PlanOf.plan-of Planning.plan-number
+case-11-number = refl
+
+-- one plan for all sheets: no length and buffer are admitted on both case 9 and case 11
+pub no-plan-for-all : (n n′ len : ℕ) (after : List ℕ) → Planning (loop-of-two 1) room n len after → Planning (loop-of-one 1) room n′ len after → ⊥
+unfolding Cases.loop-of-two Cases.loop-of-one
+no-plan-for-all n n′ len after p p′ =
+    let e : n ≡ 0 = p .number-is ∙ case-9-number in
+    let e′ : n′ ≡ 0 = p′ .number-is ∙ case-11-number in
+    let l : len ≡ 57 = p .fixed (λ six. omega arith) .0 ∙ (rw e refl) in
+    let l′ : len ≡ 33 = p′ .fixed (λ six. omega arith) .0 ∙ (rw e′ refl) in
+    omega arith
+
+-- a step that does nothing: where step answers 0, no memory is admitted that it left as it was
+pub step-moves : (b m c o : List ℕ) (out : List ℕ) → Stepping b m c o 0 m out → ⊥
+step-moves b m c o out p =
+    let is = p .memory-is ∙ step-does b m c o (sym (p .number-is)) .0 in
+    let t : at m 0 ≡ at (stepped (plan-read b) m c) 0 = ap (λ (l : List ℕ). at l 0) is in
+    let rises : at (stepped (plan-read b) m c) 0 ≡ suc (at m 0) = unfold stepped in refl in
+    omega arith
+
+-- memory for show: memories that differ at a place which is still read differ after the step too
+pub memory-counts : (p : Plan) (m m′ c c′ : List ℕ) → size p ≤ length m → size p ≤ length m′ → (q i : ℕ) → q < length (p .units) → suc i < places p q →
+    ¬ (place p m q i ≡ place p m′ q i) → ¬ (stepped p m c ≡ stepped p m′ c′)
+memory-counts p m m′ c c′ l l′ q i hq hi differ same =
+    differ (sym (older p m c l q i hq hi) ∙ ap (λ (z : List ℕ). place p z q (suc i)) same ∙ older p m′ c′ l′ q i hq hi)
+
+-- a step right only at cycle 0: at cycle 1 too step answers 0 on case 9's plan, whose unit 1 has three places, and moves them on
+unfoldable pub case-9-plan : List ℕ
+case-9-plan = plan-bytes (plan-of (sheet-of (loop-of-two 1)))
+
+pub works-at-1 : step-memory case-9-plan (1 ∷ 11 ∷ 21 ∷ 22 ∷ 23 ∷ []) (replicate 16 0) (0 ∷ 0 ∷ []) ≡ (2 ∷ 0 ∷ 4294967285 ∷ 21 ∷ 22 ∷ [])
+unfolding case-9-plan Cases.loop-of-two Cycle.base Cycle.size Cycle.blocks Cycle.result Cycle.stepped Cycle.leaving Stepping.step-number Stepping.step-memory Loops.tab Loops.every Loops.some-of Loops.total Loops.largest Loops.count Loops.lowest Loops.first Words.floor Words.residue Words.signed Words.sum Words.difference Words.scale Units.value Records.reading-fault Records.clashes Records.occupied Records.fed-once Sheet.sheet-of Sheet.sheet-faults Walks.minℤ Walks.better Walks.next Walks.row Walks.settled Walks.settles Walks.chain Walks.foldable Walks.deepest Walks.starts Folding.raw Folding.bound Folding.wait Folding.tap Lifetime.longest-wait Lifetime.falls Lifetime.live Lifetime.registers Plan.concat Plan.plan-bytes Plan.plan-read Judging.longest-tap Judging.figures-right Judging.plan-faults PlanOf.plan-of Planning.plan-number
+works-at-1 = refl
+
+-- a made-up chain: walks admit one figure alone
+pub one-chain : (b before : List ℕ) (len : ℕ) (after : List ℕ) → Bytes b → Planning b before 0 len after → (k : ℕ) → IsChain (net (sheet-of b)) k → plan-read (take len after) .chain ≡ k
+one-chain b before len after bytes p k is =
+    let c = demand-2 b before 0 len after bytes p .at-0 refl .chain-is in
+    let l = c .smallest k (is .enough) in
+    let l′ = is .smallest (plan-read (take len after) .chain) (c .enough) in
+    omega arith
+
+-- a made-up register figure: it is the largest live count of the starts that the plan prints
+pub one-figure : (b before : List ℕ) (len : ℕ) (after : List ℕ) → Bytes b → Planning b before 0 len after →
+    plan-read (take len after) .registers ≡ registers (sheet-of b) (λ u. node-in (plan-read (take len after)) u .start)
+one-figure b before len after bytes p = demand-2 b before 0 len after bytes p .at-0 refl .registers-are

@@ -1,0 +1,118 @@
+-- The sheets worked by hand, cases 1 to 12, and what the paper says of each: 01, "Sheets worked by hand". Assumes nothing.
+use mathlib.Core.Bool.{cond}
+use mathlib.Core.List.{List, [], _∷_, map}
+use Prim.Native.Nat.{ℕ, zero, suc}
+use lib.Dec.{eqb}
+use lib.ListN.{length}
+use lib.IntN.{ℤ, pos, negsuc}
+use Rattle.words.specs.Loops.{tab}
+use Rattle.words.specs.Words.{floor, scale}
+use Rattle.sheets.specs.Sheet.{Sheet, sheet-of}
+use Rattle.folding.specs.Walks.{Net, start, chain}
+use Rattle.folding.specs.Folding.{net, raw, bound, tap}
+use Rattle.folding.specs.Lifetime.{registers}
+use Rattle.planner.specs.Planning.{plan-length, plan-number}
+
+-- "Multipliers A, B on units 0, 1, depth 1, N=4, A slot 0, B slot 1, A→B one delay, B→A none", with "K 16384 and −32768"; case 10 is
+-- "Same, B in slot 0"
+unfoldable pub loop-of-two : ℕ → List ℕ
+loop-of-two slot =
+    70 ∷ 72 ∷ 4 ∷ 2 ∷ 2 ∷ 2 ∷ 70 ∷ 85 ∷ 2 ∷ 1 ∷ 70 ∷ 85 ∷ 2 ∷ 1
+    ∷ 70 ∷ 78 ∷ 0 ∷ 0 ∷ 3 ∷ 0 ∷ 64 ∷ 70 ∷ 78 ∷ 1 ∷ slot ∷ 3 ∷ 0 ∷ 128
+    ∷ 70 ∷ 69 ∷ 0 ∷ 1 ∷ 0 ∷ 1 ∷ 70 ∷ 69 ∷ 1 ∷ 0 ∷ 0 ∷ 0 ∷ []
+
+-- "One scale node wired to itself, N=1, depth 1"
+unfoldable pub loop-of-one : ℕ → List ℕ
+loop-of-one delays =
+    70 ∷ 72 ∷ 1 ∷ 1 ∷ 1 ∷ 1 ∷ 70 ∷ 85 ∷ 2 ∷ 1 ∷ 70 ∷ 78 ∷ 0 ∷ 0 ∷ 3 ∷ 0 ∷ 64 ∷ 70 ∷ 69 ∷ 0 ∷ 0 ∷ 0 ∷ delays ∷ []
+
+-- "Bounds of document 000, example 10 (A1→A2 −1, A2→A3 −1, A3→A4 0, A1→A4 0)": four wires, by number
+abbrev pub one-of-four : ℕ → ℕ → ℕ → ℕ → ℕ → ℕ
+one-of-four a b c d zero = a
+one-of-four a b c d (suc zero) = b
+one-of-four a b c d (suc (suc zero)) = c
+one-of-four a b c d (suc (suc (suc n))) = d
+
+abbrev pub example-10-bound : ℕ → ℤ
+example-10-bound zero = negsuc 0
+example-10-bound (suc zero) = negsuc 0
+example-10-bound (suc (suc n)) = pos 0
+
+abbrev pub example-10 : Net
+example-10 = record { nodes = 4; wires = 4; from = one-of-four 0 1 2 0; to = one-of-four 1 2 3 3; bound = example-10-bound }
+
+-- ---- what the definitions give
+
+-- a case by its number, with its figures
+pub record Case : Type 0 where
+  pub case : ℕ
+  pub figures : List (List ℤ)
+
+-- of a sheet with room for its plan: the planner's number, raw waits, bounds; where it passes starts, taps, and registers and chain
+unfoldable pub sheet-figures : List ℕ → List (List ℤ)
+sheet-figures b =
+    let s = sheet-of b in
+    let number = plan-number b (plan-length b) in
+    let r = start (net s) in
+    (pos number ∷ []) ∷ tab (length (s .wires)) (raw s) ∷ tab (length (s .wires)) (bound s)
+    ∷ cond (eqb number 0)
+    (map pos (tab (length (s .nodes)) r) ∷ map pos (tab (length (s .wires)) (tap s r)) ∷ map pos (registers s r ∷ chain (net s) ∷ []) ∷ [])
+    []
+
+unfoldable pub worked-cases : List Case
+worked-cases =
+    record { case = 1; figures = (floor (negsuc 0) 4 ∷ []) ∷ [] }
+    ∷ record { case = 2; figures = (floor (negsuc 3) 4 ∷ []) ∷ [] }
+    ∷ record { case = 3; figures = (floor (negsuc 4) 4 ∷ []) ∷ [] }
+    ∷ record { case = 4; figures = (floor (pos 3) 4 ∷ []) ∷ [] }
+    ∷ record { case = 5; figures = (pos (scale (pos 16384) 1) ∷ []) ∷ [] }
+    ∷ record { case = 6; figures = (pos (scale (pos 16384) 4294967295) ∷ []) ∷ [] }
+    ∷ record { case = 7; figures = (pos (scale (negsuc 16383) 3) ∷ []) ∷ [] }
+    ∷ record { case = 8; figures = (pos (scale (negsuc 32767) 2147483648) ∷ []) ∷ [] }
+    ∷ record { case = 9; figures = sheet-figures (loop-of-two 1) }
+    ∷ record { case = 10; figures = sheet-figures (loop-of-two 0) }
+    ∷ record { case = 11; figures = sheet-figures (loop-of-one 0) }
+    ∷ record { case = 11; figures = sheet-figures (loop-of-one 1) }
+    ∷ record { case = 12; figures = map pos (tab 4 (start example-10)) ∷ map pos (chain example-10 ∷ []) ∷ [] } ∷ []
+
+-- ---- what the paper says
+
+unfoldable pub paper-says : List Case
+paper-says =
+    record { case = 1; figures = (negsuc 0 ∷ []) ∷ [] }
+    ∷ record { case = 2; figures = (negsuc 0 ∷ []) ∷ [] }
+    ∷ record { case = 3; figures = (negsuc 1 ∷ []) ∷ [] }
+    ∷ record { case = 4; figures = (pos 0 ∷ []) ∷ [] }
+    -- "1 by 16384 gives 0; −1 by 16384 gives −1; 3 by −16384 gives −2; −2^31 by −32,768 gives the word 2147483648"
+    ∷ record { case = 5; figures = (pos 0 ∷ []) ∷ [] }
+    ∷ record { case = 6; figures = (pos 4294967295 ∷ []) ∷ [] }
+    ∷ record { case = 7; figures = (pos 4294967294 ∷ []) ∷ [] }
+    ∷ record { case = 8; figures = (pos 2147483648 ∷ []) ∷ [] }
+    -- "Raw waits 4, −2; bounds 1, −1; starts 1, 0; taps 0, 2"; registers 1 and chain 1 as the listing prints them
+    ∷ record { case = 9; figures = (pos 0 ∷ []) ∷ (pos 4 ∷ negsuc 1 ∷ []) ∷ (pos 1 ∷ negsuc 0 ∷ []) ∷ (pos 1 ∷ pos 0 ∷ []) ∷ (pos 0 ∷ pos 2 ∷ []) ∷ (pos 1 ∷ pos 1 ∷ []) ∷ [] }
+    -- "raw waits 3, −1, bounds 0, −1: refused 6"
+    ∷ record { case = 10; figures = (pos 6 ∷ []) ∷ (pos 3 ∷ negsuc 0 ∷ []) ∷ (pos 0 ∷ negsuc 0 ∷ []) ∷ [] }
+    -- "no delay refused; one delay passes with tap 0"
+    ∷ record { case = 11; figures = (pos 6 ∷ []) ∷ (negsuc 0 ∷ []) ∷ (negsuc 0 ∷ []) ∷ [] }
+    ∷ record { case = 11; figures = (pos 0 ∷ []) ∷ (pos 0 ∷ []) ∷ (pos 0 ∷ []) ∷ (pos 0 ∷ []) ∷ (pos 0 ∷ []) ∷ (pos 0 ∷ pos 0 ∷ []) ∷ [] }
+    -- "starts 0, 1, 2, 2; chain 2"
+    ∷ record { case = 12; figures = (pos 0 ∷ pos 1 ∷ pos 2 ∷ pos 2 ∷ []) ∷ (pos 2 ∷ []) ∷ [] } ∷ []
+
+-- ---- run and compared, and here evaluated too
+
+-- "the biquad of document 001 before retiming (its nodes 1 to 8) with a port node 9, own unit, depth 1, slot 2, wire 9→1 without delay";
+-- its gains are the filter author's, here 1/2, 1/4, −1/2 and −1/4
+unfoldable pub biquad : List ℕ
+biquad =
+    70 ∷ 72 ∷ 4 ∷ 3 ∷ 9 ∷ 12 ∷ 70 ∷ 85 ∷ 1 ∷ 1 ∷ 70 ∷ 85 ∷ 2 ∷ 2 ∷ 70 ∷ 85 ∷ 0 ∷ 1
+    ∷ 70 ∷ 78 ∷ 0 ∷ 3 ∷ 1 ∷ 0 ∷ 0 ∷ 70 ∷ 78 ∷ 0 ∷ 1 ∷ 1 ∷ 0 ∷ 0 ∷ 70 ∷ 78 ∷ 0 ∷ 2 ∷ 1 ∷ 0 ∷ 0
+    ∷ 70 ∷ 78 ∷ 0 ∷ 0 ∷ 1 ∷ 0 ∷ 0 ∷ 70 ∷ 78 ∷ 1 ∷ 0 ∷ 3 ∷ 0 ∷ 64 ∷ 70 ∷ 78 ∷ 1 ∷ 2 ∷ 3 ∷ 0 ∷ 32
+    ∷ 70 ∷ 78 ∷ 1 ∷ 3 ∷ 3 ∷ 0 ∷ 192 ∷ 70 ∷ 78 ∷ 1 ∷ 1 ∷ 3 ∷ 0 ∷ 224 ∷ 70 ∷ 78 ∷ 2 ∷ 2 ∷ 0 ∷ 0 ∷ 0
+    ∷ 70 ∷ 69 ∷ 0 ∷ 1 ∷ 0 ∷ 0 ∷ 70 ∷ 69 ∷ 0 ∷ 4 ∷ 0 ∷ 1 ∷ 70 ∷ 69 ∷ 0 ∷ 5 ∷ 0 ∷ 1 ∷ 70 ∷ 69 ∷ 0 ∷ 6 ∷ 0 ∷ 2
+    ∷ 70 ∷ 69 ∷ 0 ∷ 7 ∷ 0 ∷ 2 ∷ 70 ∷ 69 ∷ 2 ∷ 0 ∷ 0 ∷ 0 ∷ 70 ∷ 69 ∷ 3 ∷ 1 ∷ 1 ∷ 0 ∷ 70 ∷ 69 ∷ 4 ∷ 2 ∷ 0 ∷ 0
+    ∷ 70 ∷ 69 ∷ 5 ∷ 3 ∷ 0 ∷ 0 ∷ 70 ∷ 69 ∷ 6 ∷ 2 ∷ 1 ∷ 0 ∷ 70 ∷ 69 ∷ 7 ∷ 3 ∷ 1 ∷ 0 ∷ 70 ∷ 69 ∷ 8 ∷ 0 ∷ 1 ∷ 0 ∷ []
+
+-- a port on channel 3 into a scale by a half, N=1, depths 1 and 2
+unfoldable pub port-and-scale : List ℕ
+port-and-scale =
+    70 ∷ 72 ∷ 1 ∷ 2 ∷ 2 ∷ 1 ∷ 70 ∷ 85 ∷ 0 ∷ 1 ∷ 70 ∷ 85 ∷ 2 ∷ 2 ∷ 70 ∷ 78 ∷ 0 ∷ 0 ∷ 0 ∷ 3 ∷ 0 ∷ 70 ∷ 78 ∷ 1 ∷ 0 ∷ 3 ∷ 0 ∷ 64 ∷ 70 ∷ 69 ∷ 0 ∷ 1 ∷ 0 ∷ 0 ∷ []

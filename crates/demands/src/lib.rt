@@ -1,0 +1,1 @@
+// The three demands as theorems over the calls' definitions. No code.

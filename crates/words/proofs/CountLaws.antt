@@ -1,0 +1,53 @@
+-- Laws of counts and totals over 0, 1, .., n − 1. Assumes nothing.
+use mathlib.Core.Path.{_≡_, refl, sym, ap, _∙_, subst}
+use mathlib.Core.Logic.{_⊎_, inl, inr}
+use mathlib.Core.Bool.{Bool, true, false, cond, _||_, true≢false}
+use Prim.Native.Nat.{ℕ, zero, suc, _+_, _<_, _≤_}
+use native.Mathlib.Nat.{eq-or-lt-of-le}
+use native.Mathlib.Omega.{arith}
+use Rattle.words.specs.Loops.{some-of, total, count}
+use Rattle.words.proofs.LoopLaws.{passed?, total-cong}
+
+pub total-sum : (n : ℕ) (f g : ℕ → ℕ) → total n (λ i. f i + g i) ≡ total n f + total n g
+unfolding total
+total-sum zero f g = refl
+total-sum (suc n) f g = omega (arith, total-sum n f g)
+
+pub count-none : (n : ℕ) (p : ℕ → Bool) → ((i : ℕ) → i < n → p i ≡ false) → count n p ≡ 0
+unfolding count total
+count-none zero p h = refl
+count-none (suc n) p h = rw (h n (omega arith)) (omega (arith, count-none n p (λ i l. h i (omega arith))))
+
+-- one i alone passes
+pub count-one : (n : ℕ) (p : ℕ → Bool) (i : ℕ) → i < n → p i ≡ true → ((j : ℕ) → j < n → p j ≡ true → j ≡ i) → count n p ≡ 1
+unfolding count total
+count-one zero p i h t only = absurd (omega arith)
+count-one (suc n) p i h t only = elim (eq-or-lt-of-le h) [
+  | inl e ↦
+      let e′ : i ≡ n = omega arith in
+      let others : (j : ℕ) → j < n → p j ≡ false = λ j k. elim (passed? (p j)) [ inl y ↦ absurd (let z = only j (omega arith) y in omega arith) | inr f ↦ f ] in
+      let last : p n ≡ true = subst (λ (z : ℕ). p z ≡ true) e′ t in
+      rw last (omega (arith, count-none n p others))
+  | inr k ↦
+      let last : p n ≡ false = elim (passed? (p n)) [ inl y ↦ absurd (let z = only n (omega arith) y in omega arith) | inr f ↦ f ] in
+      rw last (omega (arith, count-one n p i (omega arith) t (λ j l y. only j (omega arith) y)))
+]
+
+-- where some i passes, one is found
+pub some-found : (n : ℕ) (p : ℕ → Bool) → some-of n p ≡ true → (i : ℕ) × (i < n) × (p i ≡ true)
+unfolding some-of
+some-found zero p h = absurd (true≢false (sym h))
+some-found (suc n) p h = elim (passed? (p n)) [
+  | inl t ↦ (n, omega arith, t)
+  | inr f ↦ let r = some-found n p (or-left (some-of n p) (p n) h f) in (r .0, omega (arith, r .1), r .2)
+]
+  where
+    or-left : (a b : Bool) → (a || b) ≡ true → b ≡ false → a ≡ true
+    or-left true b h k = refl
+    or-left false b h k = absurd (true≢false (sym h ∙ k))
+
+-- what passes one test or the other, and never both
+pub count-split : (n : ℕ) (p q r : ℕ → Bool) → ((i : ℕ) → i < n → cond {A = ℕ} (r i) 1 0 ≡ cond (p i) 1 0 + cond (q i) 1 0) → count n r ≡ count n p + count n q
+unfolding count
+count-split n p q r h =
+    total-cong n (λ i. cond (r i) 1 0) (λ i. cond (p i) 1 0 + cond (q i) 1 0) h ∙ total-sum n (λ i. cond (p i) 1 0) (λ i. cond (q i) 1 0)
