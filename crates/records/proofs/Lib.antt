@@ -2,3 +2,4 @@
 pub mod ReadingLaws
 pub mod NodeLaws
 pub mod ByteLaws
+pub mod AnswerLaws

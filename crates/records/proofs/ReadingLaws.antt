@@ -20,7 +20,7 @@ record-split b o m fits h =
 pub record-join : (b : List ℕ) (o : ℕ) (m : List ℕ) (fits : Bool) → marked b o m ≡ true → fits ≡ true → record-fault b o m fits ≡ 0
 record-join b o m fits h k = then-join (unless (marked b o m) 2) (unless fits 3) (unless-ok (marked b o m) 2 h) (unless-ok fits 3 k)
 
-record-le : (b : List ℕ) (o : ℕ) (m : List ℕ) (fits : Bool) → record-fault b o m fits ≤ 3
+pub record-le : (b : List ℕ) (o : ℕ) (m : List ℕ) (fits : Bool) → record-fault b o m fits ≤ 3
 record-le b o m fits = then-le _ _ 3 (unless-le (marked b o m) 2 3 (omega arith)) (unless-le fits 3 3 (omega arith))
 
 module _ (f : Format) (b : List ℕ) (ranges : Bool) (unit node wire : ℕ → Bool) where

@@ -2,8 +2,9 @@
 use mathlib.Core.Path.{_≡_, refl, sym}
 use mathlib.Core.Logic.{_⊎_, inl, inr}
 use mathlib.Core.Bool.{Bool, true, false, not, _||_, true≢false}
-use Prim.Native.Nat.{ℕ, zero, suc, _<_, _≤_}
+use Prim.Native.Nat.{ℕ, zero, suc, _+_, _<_, _≤_}
 use native.Mathlib.Nat.{eq-or-lt-of-le}
+use native.Mathlib.Numerals.{add-one}
 use native.Mathlib.Omega.{arith}
 use Rattle.words.specs.Loops.{some-of, first, unless, _then_}
 use Rattle.words.proofs.LoopLaws.{passed?}
@@ -39,6 +40,29 @@ pub first-none : (n : ℕ) (f : ℕ → ℕ) → ((i : ℕ) → i < n → f i �
 unfolding first
 first-none zero f h = refl
 first-none (suc n) f h = rw (first-none n f (λ i l. h i (omega arith)), h n (omega arith)) refl
+
+-- a loop that goes on while there is no fault
+pub first-more : (i : ℕ) (f : ℕ → ℕ) → first i f ≡ 0 → f i ≡ 0 → first (i + 1) f ≡ 0
+unfolding first
+first-more i f h k = rw (add-one, h) k
+
+-- and stops at one
+pub first-hit : (n i : ℕ) (f : ℕ → ℕ) → i < n → first i f ≡ 0 → 0 < f i → first n f ≡ f i
+unfolding first
+first-hit zero i f l h k = absurd (omega arith)
+first-hit (suc n) i f l h k = elim (eq-or-lt-of-le l) [
+  | inl e ↦ let e′ : n ≡ i = omega arith in rw (e′, h)
+  | inr m ↦ rw (first-hit n i f (omega arith) h k) (then-first (f i) (f n) k)
+]
+  where
+    then-first : (a b : ℕ) → 0 < a → (a then b) ≡ a
+    then-first zero b h = absurd (omega arith)
+    then-first (suc a) b h = refl
+
+pub first-cong : (n : ℕ) (f g : ℕ → ℕ) → ((i : ℕ) → i < n → f i ≡ g i) → first n f ≡ first n g
+unfolding first
+first-cong zero f g h = refl
+first-cong (suc n) f g h = rw (first-cong n f g (λ i l. h i (omega arith)), h n (omega arith)) refl
 
 -- ---- faults no greater than a number
 

@@ -1,0 +1,16 @@
+use borrow.Author.Tests.{eq-eqb, ne-eqb}
+use Rattle.records.proofs.Unit.k_least.Statement.{statement}
+use Rattle.records.proofs.Unit.k_least.Tie as tie
+use Rattle.records.proofs.Unit.k_least.Reads as reads
+use Rattle.records.proofs.Unit.k_least.Lts as lts
+
+-- src/lib.rt:73:5
+returns : tie.Need-returns
+returns c = simp (eq-eqb _ _ (c .if1 .taken))
+
+-- src/lib.rt:73:5
+returns-2 : tie.Need-returns-2
+returns-2 c = simp (ne-eqb _ _ (c .if1 .left))
+
+pub k-least-spec : {M : Type 1} → statement M
+k-least-spec = tie.close (tie.spec returns returns-2)

@@ -1,0 +1,29 @@
+use mathlib.Core.Path.{sym, ap, _∙_}
+use Rattle.records.specs.declared.reading.NodeRead.{NodeRead}
+use Rattle.records.specs.declared.reading.Judged.the-variants as J
+use Rattle.records.specs.Answers.{judged, node-number}
+use Rattle.records.proofs.AnswerLaws.{answer-reason}
+use borrow.Author.Needs.{needs}
+use Rattle.records.proofs.reading.node_judged.Statement.{statement}
+use Rattle.records.proofs.reading.node_judged.Tie as tie
+use Rattle.records.proofs.reading.node_judged.Reads as reads
+use Rattle.records.proofs.reading.node_judged.Lts as lts
+
+-- src/reading.rt:240:29
+enum-told : tie.Need-enum-told
+enum-told c = search needs
+
+-- src/reading.rt:241:27
+enum-known-got : tie.Need-enum-known-got
+enum-known-got c = search needs
+
+-- src/reading.rt:236:1
+returns : tie.Need-returns
+returns c = search needs
+
+-- src/reading.rt:236:1
+returns-2 : tie.Need-returns-2
+returns-2 c = sym (ap (λ (r : NodeRead). judged (node-number r)) (c .before .got .given .1) ∙ answer-reason J.Passed J.Refused _)
+
+pub node-judged-spec : {M : Type 1} → statement M
+node-judged-spec = tie.close (tie.spec enum-told enum-known-got returns returns-2)
