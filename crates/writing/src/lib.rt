@@ -9,6 +9,7 @@ ghost use Rattle.words.specs.Words.{residue};
 ghost use Rattle.records.specs.Records.{low, high};
 ghost use Rattle.plans.specs.Plan.{head-bytes, unit-bytes, node-bytes, switch-bytes, loop-wire-bytes};
 ghost use Rattle.writing.specs.Laid.{laid};
+use plans::Joint;
 use plans::Plan;
 use records::Node;
 use records::Unit;
@@ -91,14 +92,6 @@ pub fn write_node(out: &mut [u8], at: usize, node: Node, start: Iterations)
     write4(out, at, Plan::MARK, Plan::NODE_MARK, node.unit, node.slot);
     write_op(out, at + 4, node);
     write2(out, at + 7, start.low(), start.high());
-}
-
-// What a switch joins: in that slot the unit's input reads the source.
-pub struct Joint {
-    pub unit: u8,
-    pub input: u8,
-    pub slot: u8,
-    pub source: u8,
 }
 
 pub fn write_switch(out: &mut [u8], at: usize, joint: Joint, tap: Cycles)

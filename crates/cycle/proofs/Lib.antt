@@ -1,0 +1,4 @@
+-- Laws.
+pub mod MemoryLaws
+pub mod TakenLaws
+pub mod PartLaws
