@@ -2,3 +2,4 @@
 pub mod MemoryLaws
 pub mod TakenLaws
 pub mod PartLaws
+pub mod ShiftLaws

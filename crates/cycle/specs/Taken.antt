@@ -1,10 +1,10 @@
 -- What the parts of a step ask of plan bytes, and what they give. Assumes nothing.
 use mathlib.Core.Path.{_≡_}
 use mathlib.Core.Bool.{Bool, cond, _&&_}
-use mathlib.Core.List.{List}
+use mathlib.Core.List.{List, _∷_, _++_}
 use Prim.Native.Nat.{ℕ, zero, suc, _+_, _*_, _-_, _<_, _≤_}
 use lib.Dec.{eqb}
-use lib.ListN.{length, getD}
+use lib.ListN.{length, getD, take, drop}
 use Rattle.plans.specs.declared.Plan as Head
 use Rattle.plans.specs.Plan.{Plan, unit-in, switch-in, plan-read}
 use Rattle.plans.specs.Judging.{plan-fault}
@@ -51,3 +51,7 @@ tapped-place p e =
 
 abbrev pub tapped : Plan → List ℕ → ℕ → ℕ
 tapped p m e = reading p m (switch-in p e .source) (switch-in p e .tap)
+
+-- m with its n places from `from` on moved by one, the new word x first
+abbrev pub shifted : List ℕ → ℕ → ℕ → ℕ → List ℕ
+shifted m from n x = take from m ++ (take n (x ∷ drop from m) ++ drop (from + n) m)

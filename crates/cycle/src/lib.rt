@@ -7,6 +7,9 @@ ghost use Rattle.records.specs.Records.{at, two};
 ghost use Rattle.plans.specs.Plan.{unit-in, switch-in, plan-read};
 ghost use Rattle.cycle.specs.Taken.{Taken, LinesOf, Ready, Gathered, in-slot, input-place, tapped-place, tapped};
 ghost use Rattle.cycle.specs.Cycle.{size};
+
+pub mod moving;
+
 use plans::Plan;
 use words::time::Cycles;
 
