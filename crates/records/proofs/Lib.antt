@@ -3,3 +3,5 @@ pub mod ReadingLaws
 pub mod NodeLaws
 pub mod ByteLaws
 pub mod AnswerLaws
+pub mod TableLaws
+pub mod SlotLaws

@@ -2,3 +2,4 @@
 pub mod Units
 pub mod Records
 pub mod Answers
+pub mod Slots

@@ -5,7 +5,7 @@ ghost use mathlib.Core.List.{[], _∷_};
 ghost use Prim.Native.Nat.{_+_, _^_, _<_, _≤_};
 ghost use lib.ListN.{length};
 ghost use Rattle.records.specs.Records.{two, between, marked, unit-at, node-at, node-fits};
-ghost use Rattle.records.specs.Answers.{judged, header-part, unit-part, node-part, header-in, header-fits, header-answer, place, units-in-run, Inside, unit-number, unit-answer, units-fault, node-number, node-answer, nodes-fault};
+ghost use Rattle.records.specs.Answers.{judged, header-part, unit-part, node-part, header-in, header-fits, header-answer, place, units-in-run, nodes-in-run, Inside, unit-number, unit-answer, units-fault, node-number, node-answer, nodes-fault};
 use crate::Node;
 use crate::Unit;
 
@@ -143,6 +143,15 @@ pub fn unit_at(b: &[u8], at: usize) -> Unit
     Unit::new(b[at + 2], b[at + 3])
 }
 
+// Unit q of a run.
+pub fn unit_in(b: &[u8], units: Run, q: usize) -> Unit
+    requires { ⌜ Inside unit-part units (now b) ⌝ }
+    requires { ⌜ q < units .count ⌝ }
+    ensures { λ r. ⌜ r ≡ units-in-run (now (b .entry)) units q ⌝ }
+{
+    unit_at(b, units.place(q))
+}
+
 pub fn read_unit(b: &[u8], units: Run, i: usize) -> UnitRead
     requires { ⌜ Inside unit-part units (now b) ⌝ }
     requires { ⌜ i < units .count ⌝ }
@@ -199,6 +208,15 @@ pub fn node_at(b: &[u8], at: usize) -> Node
     Node::new(b[at + 2], b[at + 3], b[at + 4], k)
 }
 
+// Node x of a run.
+pub fn node_in(b: &[u8], nodes: Run, x: usize) -> Node
+    requires { ⌜ Inside node-part nodes (now b) ⌝ }
+    requires { ⌜ x < nodes .count ⌝ }
+    ensures { λ r. ⌜ r ≡ nodes-in-run (now (b .entry)) nodes x ⌝ }
+{
+    node_at(b, nodes.place(x))
+}
+
 // Whether a node's fields lie in their ranges, its op on a unit of its kind.
 fn node_fits(b: &[u8], fold: u8, units: Run, n: Node) -> bool
     requires { ⌜ Inside unit-part units (now b) ⌝ }
@@ -208,7 +226,7 @@ fn node_fits(b: &[u8], fold: u8, units: Run, n: Node) -> bool
     if units.count <= q {
         return false;
     }
-    let unit = unit_at(b, units.place(q));
+    let unit = unit_in(b, units, q);
     (n.slot < fold)
         & (n.op <= Unit::LAST_OP)
         & (unit.kind == Unit::kind_of(n.op))

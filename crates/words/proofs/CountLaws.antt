@@ -51,3 +51,12 @@ pub count-split : (n : ℕ) (p q r : ℕ → Bool) → ((i : ℕ) → i < n → 
 unfolding count
 count-split n p q r h =
     total-cong n (λ i. cond (r i) 1 0) (λ i. cond (p i) 1 0 + cond (q i) 1 0) h ∙ total-sum n (λ i. cond (p i) 1 0) (λ i. cond (q i) 1 0)
+
+-- where no i from m on passes, the first m decide
+pub count-short : (n m : ℕ) (p : ℕ → Bool) → m ≤ n → ((i : ℕ) → m ≤ i → p i ≡ false) → count n p ≡ count m p
+unfolding count total
+count-short zero m p l h = let e : m ≡ 0 = omega arith in rw e refl
+count-short (suc n) m p l h = elim (eq-or-lt-of-le l) [
+  | inl e ↦ rw e refl
+  | inr k ↦ rw (count-short n m p (omega arith) h, h n (omega arith)) (omega arith)
+]
