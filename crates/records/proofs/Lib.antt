@@ -5,3 +5,5 @@ pub mod ByteLaws
 pub mod AnswerLaws
 pub mod TableLaws
 pub mod SlotLaws
+pub mod FeedingLaws
+pub mod FedLaws

@@ -3,3 +3,4 @@ pub mod Units
 pub mod Records
 pub mod Answers
 pub mod Slots
+pub mod Feeding

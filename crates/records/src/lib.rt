@@ -4,6 +4,7 @@ ghost use mathlib.Core.Bool.{true};
 ghost use Rattle.records.specs.Units.{kind-of, inputs, k-least, k-most, k-fits, unit-fits, value};
 ghost use Rattle.records.specs.Slots.{channel-of};
 
+pub mod feeding;
 pub mod reading;
 pub mod slots;
 
@@ -30,6 +31,8 @@ impl Unit {
     pub const OP_SCALE: u8 = 3;
 
     pub const LAST_OP: u8 = Self::OP_SCALE;
+
+    pub const MOST_INPUTS: usize = 2;
     // Depths.
     pub const LEAST_DEPTH: u8 = 1;
 

@@ -6,6 +6,7 @@ use mathlib.Core.Option.{Option, some, none}
 use mathlib.Core.List.{List, [], _∷_, _++_}
 use Prim.Native.Nat.{ℕ, zero, suc, _+_, _*_, _-_, _<_, _≤_, max}
 use native.Mathlib.Nat.{eq-or-lt-of-le}
+use native.Mathlib.Numerals.{add-one}
 use native.Mathlib.Omega.{arith}
 use lib.Dec.{T, ltb, leb, eqb}
 use lib.ListN.{length, getD}
@@ -98,6 +99,14 @@ pub every-all : (n : ℕ) (p : ℕ → Bool) → ((i : ℕ) → i < n → p i �
 unfolding every
 every-all zero p h = refl
 every-all (suc n) p h = and-join (every n p) (p n) (every-all n p (λ i l. h i (omega arith))) (h n (omega arith))
+
+-- a loop that goes on while all pass, and stops at one that does not
+pub every-more : (n : ℕ) (p : ℕ → Bool) → every n p ≡ true → p n ≡ true → every (n + 1) p ≡ true
+unfolding every
+every-more n p h k = rw add-one (and-join (every n p) (p n) h k)
+
+pub every-stop : (n i : ℕ) (p : ℕ → Bool) → i < n → p i ≡ false → every n p ≡ false
+every-stop n i p l h = elim (passed? (every n p)) [ inl t ↦ absurd (true≢false (sym (every-at n p t i l) ∙ h)) | inr f ↦ f ]
 
 -- where not all pass, some i does not
 pub every-not : (n : ℕ) (p : ℕ → Bool) → every n p ≡ false → (i : ℕ) × (i < n) × (p i ≡ false)
