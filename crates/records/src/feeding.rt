@@ -3,6 +3,7 @@
 ghost use mathlib.Core.Path.{_≡_};
 ghost use mathlib.Core.Bool.{not, _&&_};
 ghost use Prim.Native.Nat.{_<_, _≤_};
+ghost use lib.ListN.{length};
 ghost use Rattle.records.specs.Records.{most-units};
 ghost use Rattle.records.specs.Answers.{unit-part, units-in-run, Inside};
 ghost use Rattle.records.specs.Feeding.{most-inputs, mask-of, unit-fed, units-fed};
@@ -45,7 +46,7 @@ fn unit_fed(kind: u8, occupied: u32, first: u32, second: u32) -> bool
 
 // Whether every input of every node is fed once.
 pub fn all_fed(b: &[u8], units: Run, slots: Slots, fed: Fed) -> bool
-    requires { ⌜ Inside unit-part units (now b) ⌝ }
+    requires { ⌜ Inside unit-part units (length (now b)) ⌝ }
     requires { ⌜ units .count ≤ most-units ⌝ }
     ensures { λ r. ⌜ r ≡ (units-fed (units .count) (units-in-run (now (b .entry)) units) (slots .occupied) (fed .masks) && not (fed .twice)) ⌝ }
 {

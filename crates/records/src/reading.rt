@@ -5,7 +5,7 @@ ghost use mathlib.Core.List.{[], _∷_};
 ghost use Prim.Native.Nat.{_+_, _^_, _<_, _≤_};
 ghost use lib.ListN.{length};
 ghost use Rattle.records.specs.Records.{two, between, marked, unit-at, node-at, node-fits};
-ghost use Rattle.records.specs.Answers.{judged, header-part, unit-part, node-part, header-in, header-fits, header-answer, place, units-in-run, nodes-in-run, Inside, unit-number, unit-answer, units-fault, node-number, node-answer, nodes-fault};
+ghost use Rattle.records.specs.Answers.{judged, header-part, unit-part, node-part, header-in, header-fits, header-answer, place, units-in-run, nodes-in-run, Inside, unit-number, unit-answer, units-fault, node-number, node-answer, nodes-fault, parts-fault};
 use crate::Node;
 use crate::Unit;
 
@@ -145,7 +145,7 @@ pub fn unit_at(b: &[u8], at: usize) -> Unit
 
 // Unit q of a run.
 pub fn unit_in(b: &[u8], units: Run, q: usize) -> Unit
-    requires { ⌜ Inside unit-part units (now b) ⌝ }
+    requires { ⌜ Inside unit-part units (length (now b)) ⌝ }
     requires { ⌜ q < units .count ⌝ }
     ensures { λ r. ⌜ r ≡ units-in-run (now (b .entry)) units q ⌝ }
 {
@@ -153,7 +153,7 @@ pub fn unit_in(b: &[u8], units: Run, q: usize) -> Unit
 }
 
 pub fn read_unit(b: &[u8], units: Run, i: usize) -> UnitRead
-    requires { ⌜ Inside unit-part units (now b) ⌝ }
+    requires { ⌜ Inside unit-part units (length (now b)) ⌝ }
     requires { ⌜ i < units .count ⌝ }
     ensures { λ r. ⌜ r ≡ unit-answer (now (b .entry)) units i ⌝ }
 {
@@ -180,7 +180,7 @@ fn unit_judged(got: UnitRead) -> Judged
 
 // The first fault of the units.
 pub fn judge_units(b: &[u8], units: Run) -> Judged
-    requires { ⌜ Inside unit-part units (now b) ⌝ }
+    requires { ⌜ Inside unit-part units (length (now b)) ⌝ }
     ensures { λ r. ⌜ r ≡ judged (units-fault (now (b .entry)) units) ⌝ }
 {
     let mut i = 0;
@@ -210,7 +210,7 @@ pub fn node_at(b: &[u8], at: usize) -> Node
 
 // Node x of a run.
 pub fn node_in(b: &[u8], nodes: Run, x: usize) -> Node
-    requires { ⌜ Inside node-part nodes (now b) ⌝ }
+    requires { ⌜ Inside node-part nodes (length (now b)) ⌝ }
     requires { ⌜ x < nodes .count ⌝ }
     ensures { λ r. ⌜ r ≡ nodes-in-run (now (b .entry)) nodes x ⌝ }
 {
@@ -219,7 +219,7 @@ pub fn node_in(b: &[u8], nodes: Run, x: usize) -> Node
 
 // Whether a node's fields lie in their ranges, its op on a unit of its kind.
 fn node_fits(b: &[u8], fold: u8, units: Run, n: Node) -> bool
-    requires { ⌜ Inside unit-part units (now b) ⌝ }
+    requires { ⌜ Inside unit-part units (length (now b)) ⌝ }
     ensures { λ r. ⌜ r ≡ node-fits fold (units .count) (units-in-run (now (b .entry)) units) n ⌝ }
 {
     let q = n.unit as usize;
@@ -234,8 +234,8 @@ fn node_fits(b: &[u8], fold: u8, units: Run, n: Node) -> bool
 }
 
 pub fn read_node(b: &[u8], fold: u8, units: Run, nodes: Run, i: usize) -> NodeRead
-    requires { ⌜ Inside unit-part units (now b) ⌝ }
-    requires { ⌜ Inside node-part nodes (now b) ⌝ }
+    requires { ⌜ Inside unit-part units (length (now b)) ⌝ }
+    requires { ⌜ Inside node-part nodes (length (now b)) ⌝ }
     requires { ⌜ i < nodes .count ⌝ }
     ensures { λ r. ⌜ r ≡ node-answer (now (b .entry)) fold units nodes i ⌝ }
 {
@@ -262,8 +262,8 @@ fn node_judged(got: NodeRead) -> Judged
 
 // The first fault of the nodes.
 pub fn judge_nodes(b: &[u8], fold: u8, units: Run, nodes: Run) -> Judged
-    requires { ⌜ Inside unit-part units (now b) ⌝ }
-    requires { ⌜ Inside node-part nodes (now b) ⌝ }
+    requires { ⌜ Inside unit-part units (length (now b)) ⌝ }
+    requires { ⌜ Inside node-part nodes (length (now b)) ⌝ }
     ensures { λ r. ⌜ r ≡ judged (nodes-fault (now (b .entry)) fold units nodes) ⌝ }
 {
     let mut i = 0;
@@ -275,4 +275,20 @@ pub fn judge_nodes(b: &[u8], fold: u8, units: Run, nodes: Run) -> Judged
         i += 1;
     }
     Judged::Passed
+}
+
+// The first fault of the total length, the units and the nodes.
+pub fn judge_parts(b: &[u8], whole: usize, fold: u8, units: Run, nodes: Run) -> Judged
+    requires { ⌜ Inside unit-part units whole ⌝ }
+    requires { ⌜ Inside node-part nodes whole ⌝ }
+    ensures { λ r. ⌜ r ≡ judged (parts-fault (now (b .entry)) whole fold units nodes) ⌝ }
+{
+    if b.len() != whole {
+        return Judged::Refused(Reason::Length);
+    }
+    let judged = judge_units(b, units);
+    let Judged::Passed = judged else {
+        return judged;
+    };
+    judge_nodes(b, fold, units, nodes)
 }

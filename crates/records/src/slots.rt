@@ -3,6 +3,7 @@ ghost use mathlib.Core.Path.{_≡_};
 ghost use mathlib.Core.Bool.{cond, _&&_};
 ghost use Prim.Native.Nat.{ℕ, _<_};
 ghost use lib.Dec.{eqb};
+ghost use lib.ListN.{length};
 ghost use Rattle.words.specs.Masks.{in-mask, with-slot};
 ghost use Rattle.records.specs.Units.{op-port};
 ghost use Rattle.records.specs.Answers.{node-part, nodes-in-run, Inside};
@@ -41,7 +42,7 @@ fn with_channel(channels: u32, n: Node) -> u32
 
 // The masks of the nodes.
 pub fn slots_in(b: &[u8], nodes: Run) -> Slots
-    requires { ⌜ Inside node-part nodes (now b) ⌝ }
+    requires { ⌜ Inside node-part nodes (length (now b)) ⌝ }
     requires { ⌜ ((x : ℕ) → x < nodes .count → Masked (nodes-in-run (now b) nodes x)) ⌝ }
     ensures { λ r. ⌜ SlotsOf (nodes .count) (nodes-in-run (now (b .entry)) nodes) r ⌝ }
 {
