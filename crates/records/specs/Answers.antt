@@ -45,7 +45,10 @@ answer got refused (suc n) = refused (reason-of (suc n))
 abbrev pub judged : ℕ → Judged
 judged = answer J.Passed J.Refused
 
--- ---- the bytes of a header, a unit and a node that sheets and plans share
+-- ---- the bytes of a mark, a header, a unit and a node that sheets and plans share
+
+abbrev pub mark-part : ℕ
+mark-part = 2
 
 abbrev pub header-part : ℕ
 header-part = 6

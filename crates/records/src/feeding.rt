@@ -1,7 +1,6 @@
 // Inputs fed, as masks: for each unit and input the slots in which it is fed. What feeds them, a sheet's wires or a plan's
 // switches, is read by the crates above.
 ghost use mathlib.Core.Path.{_≡_};
-ghost use mathlib.Core.Bool.{not, _&&_};
 ghost use Prim.Native.Nat.{_<_, _≤_};
 ghost use lib.ListN.{length};
 ghost use Rattle.records.specs.Records.{most-units};
@@ -10,7 +9,6 @@ ghost use Rattle.records.specs.Feeding.{most-inputs, mask-of, unit-fed, 
 use crate::Unit;
 use crate::reading::Run;
 use crate::reading::unit_in;
-use crate::slots::Slots;
 
 // An input of the node on a unit in a slot.
 pub struct Input {
@@ -44,14 +42,12 @@ fn unit_fed(kind: u8, occupied: u32, first: u32, second: u32) -> bool
     ((n <= 0) | (first == occupied)) & ((n <= 1) | (second == occupied))
 }
 
-// Whether every input of every node is fed once.
-pub fn all_fed(b: &[u8], units: Run, slots: Slots, fed: Fed) -> bool
+// Whether each unit's inputs are fed in its occupied slots, and in no other.
+pub fn units_fed(b: &[u8], units: Run, occupied: [u32; 8], masks: [u32; 16]) -> bool
     requires { ⌜ Inside unit-part units (length (now b)) ⌝ }
     requires { ⌜ units .count ≤ most-units ⌝ }
-    ensures { λ r. ⌜ r ≡ (units-fed (units .count) (units-in-run (now (b .entry)) units) (slots .occupied) (fed .masks) && not (fed .twice)) ⌝ }
+    ensures { λ r. ⌜ r ≡ units-fed (units .count) (units-in-run (now (b .entry)) units) occupied masks ⌝ }
 {
-    let occupied = slots.occupied;
-    let masks = fed.masks;
     let mut q = 0;
     while q < units.count {
         let unit = unit_in(b, units, q);
@@ -61,5 +57,5 @@ pub fn all_fed(b: &[u8], units: Run, slots: Slots, fed: Fed) -> bool
         }
         q += 1;
     }
-    !fed.twice
+    true
 }

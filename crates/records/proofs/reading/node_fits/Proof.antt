@@ -6,6 +6,8 @@ use mir.ValLaws.{toZ-ofZ}
 use borrow.Author.Needs.{needs}
 use borrow.Author.Tests.{le-ltb, lt-ltb}
 use Rattle.records.specs.Units.{k-fits}
+use Rattle.records.specs.Answers.{unit-part}
+use Rattle.records.proofs.AnswerLaws.{in-run}
 use Rattle.records.proofs.reading.node_fits.Statement.{statement}
 use Rattle.records.proofs.reading.node_fits.Tie as tie
 
@@ -16,7 +18,9 @@ returns : tie.Need-returns
 returns c = simp (le-ltb _ _ (c .if1 .taken))
 
 unit-in-requires : tie.Need-unit-in-requires
-unit-in-requires c κs = search needs
+unit-in-requires c κs =
+    let s = c .before .before .before .before in
+    in-run unit-part _ _ (s .args .n .unit) (s .pre) (c .if1 .left)
 
 kind-of-requires : tie.Need-kind-of-requires
 kind-of-requires c κs = search needs

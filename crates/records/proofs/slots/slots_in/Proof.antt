@@ -3,8 +3,9 @@ use mathlib.Core.Path.{_≡_, refl, subst⁻¹}
 use Prim.Native.Nat.{_≤_, _-_}
 use native.Mathlib.Omega.{arith}
 use borrow.Author.Needs.{needs}
-use Rattle.records.specs.Answers.{nodes-in-run}
+use Rattle.records.specs.Answers.{node-part, nodes-in-run}
 use Rattle.records.specs.Slots.{Masked}
+use Rattle.records.proofs.AnswerLaws.{in-run}
 use Rattle.records.proofs.SlotLaws.{Taken, taken-none, taken-next, taken-slots}
 use Rattle.records.proofs.TableLaws.{empty-at}
 use Rattle.records.proofs.slots.slots_in.Statement.{statement}
@@ -20,7 +21,9 @@ loop-holds : tie.Need-loop-holds Inv-loop μ-loop
 loop-holds c = (omega arith, taken-none _ _ refl (empty-at 8))
 
 node-in-requires : tie.Need-node-in-requires Inv-loop μ-loop
-node-in-requires c κs = search needs
+node-in-requires c κs =
+    let l = c .before .before in
+    in-run node-part _ _ (l .loop .x) (l .before .before .pre .0) (c .if1 .taken)
 
 -- the node that is read has room in the masks
 room : (c : tie.After-node-in Inv-loop μ-loop) → Masked (c .node-in .result)
