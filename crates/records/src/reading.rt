@@ -149,15 +149,16 @@ pub fn read_unit(b: &[u8], units: Run, i: usize) -> UnitRead
     requires { ⌜ place units i + unit-part ≤ length (now b) ⌝ }
     ensures { λ r. ⌜ r ≡ unit-answer (now (b .entry)) units i ⌝ }
 {
-    if !marked(b, units, i) {
+    let right = marked(b, units, i);
+    let unit = unit_in(b, units, i);
+    let fits = unit.fits();
+    if !right {
         return UnitRead::Refused(Reason::Mark);
     }
-    let unit = unit_in(b, units, i);
-    if unit.fits() {
-        UnitRead::Got(unit)
-    } else {
-        UnitRead::Refused(Reason::Range)
+    if !fits {
+        return UnitRead::Refused(Reason::Range);
     }
+    UnitRead::Got(unit)
 }
 
 fn unit_judged(got: UnitRead) -> Judged
@@ -221,15 +222,16 @@ pub fn read_node(b: &[u8], fold: u8, units: Run, nodes: Run, i: usize) -> NodeRe
     requires { ⌜ place nodes i + node-part ≤ length (now b) ⌝ }
     ensures { λ r. ⌜ r ≡ node-answer (now (b .entry)) fold units nodes i ⌝ }
 {
-    if !marked(b, nodes, i) {
+    let right = marked(b, nodes, i);
+    let node = node_in(b, nodes, i);
+    let fits = node_fits(b, fold, units, node);
+    if !right {
         return NodeRead::Refused(Reason::Mark);
     }
-    let node = node_in(b, nodes, i);
-    if node_fits(b, fold, units, node) {
-        NodeRead::Got(node)
-    } else {
-        NodeRead::Refused(Reason::Range)
+    if !fits {
+        return NodeRead::Refused(Reason::Range);
     }
+    NodeRead::Got(node)
 }
 
 fn node_judged(got: NodeRead) -> Judged

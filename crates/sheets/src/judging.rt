@@ -75,15 +75,16 @@ pub fn read_wire(b: &[u8], sheet: Sheet, e: usize) -> WireRead
     requires { ⌜ e < sheet .wires ⌝ }
     ensures { λ r. ⌜ r ≡ wire-answer (now (b .entry)) e ⌝ }
 {
-    if !marked(b, sheet.wire_run(), e) {
+    let right = marked(b, sheet.wire_run(), e);
+    let wire = wire_of(b, sheet, e);
+    let fits = wire_fits(b, sheet, wire);
+    if !right {
         return WireRead::Refused(Reason::Mark);
     }
-    let wire = wire_of(b, sheet, e);
-    if wire_fits(b, sheet, wire) {
-        WireRead::Got(wire)
-    } else {
-        WireRead::Refused(Reason::Range)
+    if !fits {
+        return WireRead::Refused(Reason::Range);
     }
+    WireRead::Got(wire)
 }
 
 fn wire_judged(got: WireRead) -> Judged
