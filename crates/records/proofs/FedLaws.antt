@@ -8,8 +8,8 @@ use native.Mathlib.Decide.{ℕ-discrete}
 use native.Mathlib.Omega.{arith}
 use lib.Dec.{ltb, leb, eqb}
 use lib.ListN.{getD}
-use borrow.Author.Tests.{ltb-true, ltb-false, leb-true, leb-false, lt-leb, eqb-true, eq-eqb, not-true}
-use Rattle.words.specs.Loops.{every, some-of, count}
+use borrow.Author.Tests.{ltb-true, ltb-false, leb-false, lt-leb, eqb-true, eq-eqb, not-true}
+use Rattle.words.specs.Loops.{some-of, count}
 use Rattle.words.specs.Masks.{in-mask}
 use Rattle.words.proofs.LoopLaws.{passed?, bool-ext, and-split, and-join, every-at, every-all, some-of-hit}
 use Rattle.words.proofs.CountLaws.{some-found, count-one, count-two, count-found}
@@ -23,7 +23,7 @@ use Rattle.records.specs.declared.feeding.Fed.{Fed}
 use Rattle.records.specs.Units.{port, adder, kind-of, inputs, inputs-of}
 use Rattle.records.specs.Records.{runs-in, fed-once}
 use Rattle.records.specs.Slots.{SlotsOf}
-use Rattle.records.specs.Feeding.{most-inputs, mask-of, feeds-in, same-input, FedOf, unit-fed, units-fed}
+use Rattle.records.specs.Feeding.{most-inputs, mask-of, feeds-in, FedOf, unit-fed, units-fed}
 
 -- no kind has more inputs than two
 pub inputs-most : (kind : ℕ) → inputs kind ≤ most-inputs

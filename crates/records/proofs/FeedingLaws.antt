@@ -1,31 +1,20 @@
 -- Wires or switches taken into the masks of inputs fed one by one, and that the masks' test by units is 01's: every input of every
 -- node is fed by one. Assumes nothing.
-use mathlib.Core.Path.{_≡_, refl, sym, ap, ap₂, subst⁻¹, _∙_}
-use mathlib.Core.Logic.{inl, inr}
-use mathlib.Core.Bool.{Bool, true, false, not, _&&_, _||_, true≢false}
+use mathlib.Core.Path.{_≡_, refl, sym, ap₂, subst⁻¹, _∙_}
+use mathlib.Core.Bool.{Bool, true, false, _&&_, _||_}
 use mathlib.Core.List.{List}
-use Prim.Native.Nat.{ℕ, zero, suc, _+_, _*_, _<_, _≤_}
-use native.Mathlib.Nat.{add-zero}
-use native.Mathlib.Decide.{ℕ-discrete}
+use Prim.Native.Nat.{ℕ, _+_, _*_, _<_}
 use native.Mathlib.Numerals.{add-one}
 use native.Mathlib.Omega.{arith}
-use lib.Dec.{ltb, leb, eqb}
+use lib.Dec.{eqb}
 use lib.ListN.{length, getD, set, length-set}
-use borrow.Author.Tests.{ltb-true, ltb-false, leb-true, leb-false, le-leb, eqb-true, eq-eqb, lt-leb}
-use Rattle.words.specs.Loops.{every, some-of, count}
+use borrow.Author.Tests.{eqb-true, eq-eqb}
+use Rattle.words.specs.Loops.{every, some-of}
 use Rattle.words.specs.Masks.{in-mask, with-slot}
-use Rattle.words.proofs.LoopLaws.{passed?, bool-ext, and-split, and-join, every-at, every-all, every-more, every-stop, some-of-hit, some-of-cong}
-use Rattle.words.proofs.CountLaws.{some-found, count-one, count-two, count-found}
-use Rattle.words.proofs.FaultLaws.{none-of}
-use Rattle.words.proofs.MaskLaws.{mask-same}
+use Rattle.words.proofs.LoopLaws.{bool-ext, and-split, and-join, every-more, every-stop, some-of-cong}
 use Rattle.records.specs.declared.Unit.{Unit}
-use Rattle.records.specs.declared.Node.{Node}
-use Rattle.records.specs.declared.slots.Slots.{Slots}
 use Rattle.records.specs.declared.feeding.Input.{Input}
-use Rattle.records.specs.declared.feeding.Fed.{Fed}
-use Rattle.records.specs.Units.{port, adder, kind-of, inputs, inputs-of}
-use Rattle.records.specs.Records.{most-units, runs-in, fed-once}
-use Rattle.records.specs.Slots.{SlotsOf}
+use Rattle.records.specs.Records.{most-units}
 use Rattle.records.specs.Feeding.{most-inputs, InputMasked, mask-of, feeds-in, same-input, FedOf, unit-fed, units-fed}
 use Rattle.records.proofs.TableLaws.{Filled, filled-none, filled-met, filled-on}
 

@@ -1,8 +1,7 @@
 -- A table of masks filled entry by entry: entry x, where it counts, puts slot x into mask number `line x`. Nodes fill the masks of
 -- occupied slots and of channels so, and wires or switches the masks of inputs fed. Assumes nothing.
 use mathlib.Core.Path.{_≡_, refl, sym, ap, _∙_}
-use mathlib.Core.Logic.{inl, inr}
-use mathlib.Core.Bool.{Bool, true, false, cond, _&&_, _||_, or-comm, or-false}
+use mathlib.Core.Bool.{Bool, true, false, _&&_, _||_, or-comm, or-false}
 use mathlib.Core.List.{List}
 use Prim.Native.Nat.{ℕ, zero, suc, _+_, _^_, _<_}
 use native.Mathlib.Numerals.{add-one}
@@ -13,7 +12,7 @@ use lib.Seq.{getD-set-same, getD-set-other}
 use borrow.Author.Tests.{eqb-true, eqb-false}
 use Rattle.words.specs.Loops.{some-of}
 use Rattle.words.specs.Masks.{in-mask, with-slot}
-use Rattle.words.proofs.LoopLaws.{passed?, some-of-cong, some-and}
+use Rattle.words.proofs.LoopLaws.{some-of-cong, some-and}
 use Rattle.words.proofs.MaskLaws.{in-none, in-with, with-below}
 
 pub empty-at : (n q : ℕ) → _≡_ {A = ℕ} (getD (replicate n 0) q 0) 0

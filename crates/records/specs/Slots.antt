@@ -1,12 +1,11 @@
 -- Occupied slots as masks, "clashes found by masks", and inputs fed as masks. Assumes nothing.
 use mathlib.Core.Path.{_≡_}
-use mathlib.Core.Bool.{Bool, true, not, cond, _&&_, _||_}
-use mathlib.Core.List.{List}
-use Prim.Native.Nat.{ℕ, _+_, _*_, _^_, _<_}
-use lib.Dec.{leb, eqb}
-use lib.ListN.{length, getD}
+use mathlib.Core.Bool.{true, cond}
+use Prim.Native.Nat.{ℕ, _^_, _<_}
+use lib.Dec.{eqb}
+use lib.ListN.{getD}
 use lib.IntN.{natAbs}
-use Rattle.words.specs.Loops.{every, some-of}
+use Rattle.words.specs.Loops.{some-of}
 use Rattle.words.specs.Masks.{in-mask}
 use Rattle.records.specs.declared.Node.{Node}
 use Rattle.records.specs.declared.slots.Slots.{Slots}

@@ -1,5 +1,5 @@
 -- A sheet's inputs are fed once exactly where the masks say so: each wire feeds the node that it meets. Assumes nothing.
-use mathlib.Core.Path.{_≡_, refl, sym, ap, ap₂, subst, _∙_}
+use mathlib.Core.Path.{_≡_, refl, sym, ap, subst, _∙_}
 use mathlib.Core.Bool.{Bool, true, false, not, _&&_, _||_, true≢false}
 use mathlib.Core.List.{List}
 use Prim.Native.Nat.{ℕ, _<_}
@@ -11,7 +11,6 @@ use Rattle.records.specs.declared.Unit.{Unit}
 use Rattle.records.specs.declared.slots.Slots.{Slots}
 use Rattle.records.specs.declared.feeding.Fed.{Fed}
 use Rattle.records.specs.declared.reading.Run.{Run}
-use Rattle.records.specs.Units.{kind-of}
 use Rattle.records.specs.Records.{clashes, fed-once}
 use Rattle.records.specs.Answers.{unit-run, units-in-run}
 use Rattle.records.specs.Slots.{SlotsOf}
@@ -19,7 +18,7 @@ use Rattle.records.specs.Feeding.{feeds-in, FedOf, units-fed}
 use Rattle.records.proofs.NodeLaws.{clash-apart}
 use Rattle.records.proofs.FedLaws.{fed-right}
 use Rattle.sheets.specs.declared.Sheet.{Sheet as Header}
-use Rattle.sheets.specs.Sheet.{unit-of, node-of, wire-of, sheet-format, sheet-of, feeds}
+use Rattle.sheets.specs.Sheet.{node-of, wire-of, sheet-format, sheet-of, feeds}
 use Rattle.sheets.specs.Answers.{input-of, Held}
 use Rattle.sheets.proofs.SheetLaws.{units-is, nodes-is, wires-is}
 use Rattle.sheets.proofs.HeldLaws.{units-said, nodes-said, wires-said, unit-got}

@@ -1,8 +1,7 @@
 -- Nodes and wires in their ranges have room in the masks. Assumes nothing.
-use mathlib.Core.Path.{_≡_, refl, sym, ap, _∙_}
-use mathlib.Core.Bool.{Bool, true, _&&_}
+use mathlib.Core.Bool.{_&&_}
 use mathlib.Core.List.{List}
-use Prim.Native.Nat.{ℕ, _<_, _≤_}
+use Prim.Native.Nat.{ℕ, _<_}
 use native.Mathlib.Omega.{arith}
 use lib.Dec.{ltb, leb, eqb}
 use lib.ListN.{length}
@@ -17,7 +16,6 @@ use Rattle.sheets.specs.declared.Sheet.{Sheet as Header}
 use Rattle.sheets.specs.Sheet.{unit-of, node-of, wire-of, sheet-of}
 use Rattle.sheets.specs.Answers.{input-of, Held}
 use Rattle.sheets.proofs.SheetLaws.{fold-is, units-is, nodes-is, wires-is, WireFits, wire-split}
-use Rattle.sheets.proofs.HeldLaws.{nodes-said, wires-said}
 
 module _ (b : List ℕ) (s : Header) (h : Held b s) where
   counts-of : Counts b

@@ -1,20 +1,18 @@
 -- A sheet's first fault is that of its parts in 01's order: the header; the length and the records; clashes and inputs. Assumes nothing.
 use mathlib.Core.Path.{_≡_, refl, sym, ap, subst⁻¹, _∙_}
-use mathlib.Core.Bool.{Bool, true, false, not, _&&_}
 use mathlib.Core.List.{List}
-use Prim.Native.Nat.{ℕ, zero, suc, _+_, _*_, _^_, _<_, _≤_}
+use Prim.Native.Nat.{ℕ, zero, suc, _^_, _<_}
 use native.Mathlib.Omega.{arith}
-use lib.Dec.{ltb, leb, eqb}
+use lib.Dec.{leb, eqb}
 use lib.ListN.{length}
 use borrow.Author.Tests.{eqb-true}
 use Rattle.words.specs.Loops.{first, unless, _then_}
 use Rattle.words.proofs.FaultLaws.{then-split, then-assoc, unless-true, first-at, first-cong}
 use Rattle.records.specs.declared.Unit.{Unit}
-use Rattle.records.specs.declared.Node.{Node}
 use Rattle.records.specs.declared.reading.Reason.{Reason}
 use Rattle.records.specs.declared.reading.Judged.the-variants as J
 use Rattle.records.specs.declared.reading.Run.{Run}
-use Rattle.records.specs.Units.{unit-fits, k-fits}
+use Rattle.records.specs.Units.{unit-fits}
 use Rattle.records.specs.Records.{fold-in, units-in, nodes-in, wires-in, counts-fit, unit-place, node-place, whole-length, node-at, record-fault, reading-fault, node-fits}
 use Rattle.records.specs.Answers.{answer, judged, unit-part, node-part, place, Inside, unit-run, node-run, wire-run, unit-fault, units-fault, node-fault, nodes-fault as nodes-run-fault, units-in-run, nodes-in-run, parts-fault}
 use Rattle.records.proofs.ReadingLaws.{record-split, counts-split}
@@ -24,7 +22,7 @@ use Rattle.sheets.specs.declared.Sheet.{Sheet as Header}
 use Rattle.sheets.specs.declared.judging.SheetRead.the-variants as S
 use Rattle.sheets.specs.Sheet.{unit-of, node-of, sheet-format, sheet-of, sheet-faults, sheet-fault}
 use Rattle.sheets.specs.Answers.{header-of, sheet-answer, head-fault, header-answer, wire-fault, wires-fault, front-fault, records-fault, nodes-fault, HeaderSaid, Whole, Held}
-use Rattle.sheets.proofs.SheetLaws.{fold-is, units-is, nodes-is, wires-is, unit-read, node-read}
+use Rattle.sheets.proofs.SheetLaws.{fold-is, units-is, nodes-is, unit-read, node-read}
 
 -- ---- what the header says, put into the records' judging
 

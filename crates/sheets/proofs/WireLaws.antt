@@ -1,6 +1,6 @@
 -- A wire's ranges, and the reader's answer for it. Assumes nothing.
-use mathlib.Core.Path.{_≡_, refl, sym, ap, _∙_}
-use mathlib.Core.Bool.{Bool, true, false, _&&_, and-true, and-false}
+use mathlib.Core.Path.{_≡_, refl, ap, _∙_}
+use mathlib.Core.Bool.{false, _&&_, and-true, and-false}
 use mathlib.Core.List.{List}
 use Prim.Native.Nat.{ℕ, _<_, _≤_}
 use native.Mathlib.Omega.{arith}
@@ -8,7 +8,7 @@ use lib.Dec.{ltb, leb}
 use lib.ListN.{length}
 use borrow.Author.Tests.{lt-ltb, le-ltb}
 use Rattle.records.specs.Units.{inputs-of}
-use Rattle.records.specs.Records.{wire-place, record-fault}
+use Rattle.records.specs.Records.{wire-place}
 use Rattle.records.proofs.ReadingLaws.{record-le}
 use Rattle.records.proofs.AnswerLaws.{number-answer}
 use Rattle.sheets.specs.declared.Wire.{Wire}

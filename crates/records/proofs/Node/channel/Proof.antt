@@ -1,10 +1,9 @@
 -- `records::Node::channel` meets its contract: the K of a port is not below 0. Assumes nothing.
-use mathlib.Core.Path.{_≡_, ap, _∙_}
-use Prim.Native.Nat.{_<_}
+use mathlib.Core.Path.{ap}
 use native.Mathlib.Omega.{arith}
-use lib.IntN.{pos, natAbs}
-use mir.Syntax.{w8, w16}
-use mir.Val.{SFits, Fits, toZ, ofZ}
+use lib.IntN.{natAbs}
+use mir.Syntax.{w16}
+use mir.Val.{SFits}
 use mir.ValLaws.{toZ-ofZ}
 use borrow.Author.Needs.{needs}
 use borrow.Author.Tests.{eq-eqb, ne-eqb}

@@ -1,9 +1,6 @@
 use borrow.Author.Needs.{needs}
 use Rattle.records.proofs.feeding.unit_fed.Statement.{statement}
 use Rattle.records.proofs.feeding.unit_fed.Tie as tie
-use Rattle.records.proofs.feeding.unit_fed.Reads as reads
-use Rattle.records.proofs.feeding.unit_fed.Lts as lts
-use Rattle.records.proofs.Unit.inputs.Reads as inputs-reads
 
 -- src/feeding.rt:42:9
 inputs-requires : tie.Need-inputs-requires

@@ -1,5 +1,5 @@
 -- `records::reading::judge_parts` meets its contract: the first part with a fault decides. Assumes nothing.
-use mathlib.Core.Path.{_≡_, sym, _∙_}
+use mathlib.Core.Path.{sym, _∙_}
 use borrow.Author.Needs.{needs}
 use borrow.Author.Tests.{eq-eqb, ne-eqb}
 use Rattle.records.specs.declared.reading.Judged.the-variants as J

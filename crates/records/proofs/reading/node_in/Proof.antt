@@ -1,5 +1,5 @@
 -- `records::reading::node_in` meets its contract: its five bytes behind the mark. Assumes nothing.
-use mathlib.Core.Path.{_≡_, ap, _∙_}
+use mathlib.Core.Path.{ap, _∙_}
 use mir.Syntax.{w16}
 use mir.ValLaws.{toZ-ofZ}
 use Rattle.words.specs.Words.{signed}

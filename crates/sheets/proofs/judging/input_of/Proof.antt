@@ -1,5 +1,5 @@
 -- `sheets::judging::input_of` meets its contract: the wire names its node. Assumes nothing.
-use mathlib.Core.Path.{_≡_, ap, ap₂, subst⁻¹, _∙_}
+use mathlib.Core.Path.{ap, ap₂, subst⁻¹, _∙_}
 use Prim.Native.Nat.{_<_}
 use native.Mathlib.Omega.{arith}
 use Rattle.records.specs.declared.Node.{Node}
@@ -9,7 +9,7 @@ use Rattle.sheets.specs.Sheet.{sheet-of, node-of}
 use Rattle.sheets.proofs.SheetLaws.{nodes-is, wires-is}
 use Rattle.sheets.proofs.HeldLaws.{nodes-said, wires-said}
 use Rattle.sheets.proofs.MaskedLaws.{wire-fit}
-use mathlib.Core.Path.{_≡_, sym, ap, ap₂, _∙_}
+use mathlib.Core.Path.{ap, ap₂, _∙_}
 use borrow.Author.Needs.{needs}
 use Rattle.sheets.proofs.judging.input_of.Statement.{statement}
 use Rattle.sheets.proofs.judging.input_of.Tie as tie
