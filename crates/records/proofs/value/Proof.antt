@@ -1,5 +1,5 @@
 -- `records::value` meets its contract: an arm for each op. Assumes nothing.
-use mathlib.Core.Path.{_≡_, sym, ap, _∙_}
+use mathlib.Core.Path.{ap, _∙_}
 use lib.IntN.{ℤ}
 use mir.Syntax.{w16}
 use mir.ValLaws.{toZ-ofZ}

@@ -1,8 +1,6 @@
 use borrow.Author.Tests.{eq-eqb, ne-eqb}
 use Rattle.records.proofs.Unit.inputs.Statement.{statement}
 use Rattle.records.proofs.Unit.inputs.Tie as tie
-use Rattle.records.proofs.Unit.inputs.Reads as reads
-use Rattle.records.proofs.Unit.inputs.Lts as lts
 
 -- src/lib.rt:60:5
 returns : tie.Need-returns

@@ -1,8 +1,6 @@
 use borrow.Author.Tests.{eq-eqb, ne-eqb}
 use Rattle.records.proofs.Unit.k_least.Statement.{statement}
 use Rattle.records.proofs.Unit.k_least.Tie as tie
-use Rattle.records.proofs.Unit.k_least.Reads as reads
-use Rattle.records.proofs.Unit.k_least.Lts as lts
 
 -- src/lib.rt:73:5
 returns : tie.Need-returns

@@ -1,8 +1,6 @@
 use borrow.Author.Tests.{eq-eqb, ne-eqb}
 use Rattle.records.proofs.Unit.k_most.Statement.{statement}
 use Rattle.records.proofs.Unit.k_most.Tie as tie
-use Rattle.records.proofs.Unit.k_most.Reads as reads
-use Rattle.records.proofs.Unit.k_most.Lts as lts
 
 -- src/lib.rt:83:5
 returns : tie.Need-returns

@@ -1,8 +1,6 @@
 use borrow.Author.Tests.{eq-eqb, ne-eqb}
 use Rattle.records.proofs.Unit.kind_of.Statement.{statement}
 use Rattle.records.proofs.Unit.kind_of.Tie as tie
-use Rattle.records.proofs.Unit.kind_of.Reads as reads
-use Rattle.records.proofs.Unit.kind_of.Lts as lts
 
 -- src/lib.rt:47:5
 returns : tie.Need-returns

@@ -3,8 +3,6 @@ use native.Mathlib.Omega.{arith}
 use borrow.Author.Needs.{needs}
 use Rattle.records.proofs.reading.two_at.Statement.{statement}
 use Rattle.records.proofs.reading.two_at.Tie as tie
-use Rattle.records.proofs.reading.two_at.Reads as reads
-use Rattle.records.proofs.reading.two_at.Lts as lts
 
 -- src/reading.rt:130:5
 shared-slice-read-result : tie.Need-shared-slice-read-result

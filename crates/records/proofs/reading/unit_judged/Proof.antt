@@ -6,8 +6,6 @@ use Rattle.records.proofs.AnswerLaws.{answer-reason}
 use borrow.Author.Needs.{needs}
 use Rattle.records.proofs.reading.unit_judged.Statement.{statement}
 use Rattle.records.proofs.reading.unit_judged.Tie as tie
-use Rattle.records.proofs.reading.unit_judged.Reads as reads
-use Rattle.records.proofs.reading.unit_judged.Lts as lts
 
 -- src/reading.rt:167:29
 enum-told : tie.Need-enum-told
