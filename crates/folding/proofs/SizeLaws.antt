@@ -103,7 +103,7 @@ module _ (s : Sheet) (sound : Sound s) (small : Small s) where
   pub tap-fits : Foldable s → (e : ℕ) → e < length (s .wires) → tap s (start (net s)) e < 65536
   tap-fits ok e h = omega (arith, tap-lt ok e h, small .fold)
 
-  last-lt : Foldable s → (u : ℕ) → longest-wait s (start (net s)) u < 816 * s .fold
+  pub last-lt : Foldable s → (u : ℕ) → longest-wait s (start (net s)) u < 816 * s .fold
   unfolding longest-wait
   last-lt ok u =
       let b = largest-le (length (s .wires)) (λ e. cond (eqb (wire-of s e .from) u) (tap s (start (net s)) e) 0) (816 * s .fold - 1)

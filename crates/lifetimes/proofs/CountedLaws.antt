@@ -36,8 +36,8 @@ module _ (n first : ℕ) (0<n : 0 < n) (n≤32 : n ≤ 32) (counts : List ℕ) w
       rw (slot, add-one i) (omega (arith, before t ht, step-test i (offset n first t))) in e)
 
   -- a slot's count fits
-  pub counted-small : (i : ℕ) (live : List ℕ) → Small counts 1000 → Counted n first i counts live → (t : ℕ) → t < n → getD live t 0 ≤ 1001
-  counted-small i live small c t h = elim-bit (ltb (offset n first t) i) (c t h) (small t)
+  pub counted-small : (i : ℕ) (live : List ℕ) → Small n counts 1000 → Counted n first i counts live → (t : ℕ) → t < n → getD live t 0 ≤ 1001
+  counted-small i live small c t h = elim-bit (ltb (offset n first t) i) (c t h) (small t h)
     where
       elim-bit : {a b : ℕ} (x : Bool) → a ≡ b + cond x 1 0 → b ≤ 1000 → a ≤ 1001
       elim-bit true e l = omega arith

@@ -1,2 +1,3 @@
 -- Laws.
 pub mod CountedLaws
+pub mod LiveSums
