@@ -14,9 +14,9 @@ use Rattle.plans.specs.Plan.{Plan, node-in, plan-read}
 use Rattle.plans.specs.Judging.{plan-fault}
 use Rattle.planner.specs.Folds.{Folds}
 use Rattle.planner.specs.Planning.{Planning}
-use Rattle.machine.specs.Cycle.{places, size, place, result, run, leaving}
+use Rattle.cycle.specs.Cycle.{places, size, place, result, run, leaving}
 use Rattle.machine.specs.Stepping.{clear-number, step-number, step-memory, step-output}
-use Rattle.machine.proofs.MemoryLaws.{begun, ago-none, ago-some, place-run, length-run, cycle-run}
+use Rattle.cycle.proofs.MemoryLaws.{begun, ago-none, ago-some, place-run, length-run, cycle-run}
 use Rattle.machine.proofs.SteppingLaws.{clear-fine, clear-is, step-fine, step-is, output-is}
 use Rattle.demands.specs.Graph.{Values, HasValues}
 use Rattle.demands.specs.Running.{Handed, Leaves, memory, last-cycle, Runs}

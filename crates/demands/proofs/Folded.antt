@@ -19,8 +19,8 @@ use Rattle.sheets.specs.Sound.{Sound}
 use Rattle.folding.specs.Folding.{depth-of}
 use Rattle.plans.specs.Plan.{Plan, unit-in, node-in, switch-in}
 use Rattle.planner.specs.Folds.{Folds}
-use Rattle.machine.specs.Cycle.{places, size, reading, through, input-word, run, leaving}
-use Rattle.machine.proofs.MemoryLaws.{begun, ago, ago-none, ago-some, place-run, cycle-run}
+use Rattle.cycle.specs.Cycle.{places, size, reading, through, input-word, run, leaving}
+use Rattle.cycle.proofs.MemoryLaws.{begun, ago, ago-none, ago-some, place-run, cycle-run}
 use Rattle.demands.specs.Graph.{Values, delayed, along-wire, arriving, wire-into}
 use Rattle.demands.specs.Running.{Handed, Leaves}
 use Rattle.demands.proofs.TapLaws.{tapℕ, far, near, delayed-shift, no-sample}

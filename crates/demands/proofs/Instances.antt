@@ -29,8 +29,8 @@ use Rattle.sheets.specs.Sheet.{sheet-of}
 use Rattle.plans.specs.Plan.{plan-bytes, loop-bytes, plan-read}
 use Rattle.planner.specs.PlanOf.{plan-of}
 use Rattle.planner.specs.Planning.{plan-number, Planning}
-use Rattle.machine.specs.Cycle
-use Rattle.machine.specs.Cycle.{size}
+use Rattle.cycle.specs.Cycle
+use Rattle.cycle.specs.Cycle.{size}
 use Rattle.demands.specs.Cases
 use Rattle.demands.specs.Cases.{loop-of-two, port-and-scale}
 use Rattle.demands.specs.Running.{Handed, last-cycle, Runs}

@@ -23,7 +23,7 @@ use Rattle.plans.specs.Plan.{Plan, node-in, switch-in}
 use Rattle.plans.specs.Judging.{switched}
 use Rattle.planner.specs.Folds.{Folds}
 use Rattle.planner.proofs.FoldsLaws.{runs-in-is, switched-is}
-use Rattle.machine.specs.Cycle.{through, input-word, worked, result}
+use Rattle.cycle.specs.Cycle.{through, input-word, worked, result}
 use Rattle.demands.specs.Graph.{wire-into}
 use Rattle.demands.proofs.GraphLaws.{Ordered}
 use Rattle.demands.proofs.TapLaws.{tapℕ}

@@ -25,11 +25,11 @@ use Rattle.folding.specs.Lifetime.{registers}
 use Rattle.plans.specs.Plan.{Plan, node-in, plan-read, plan-bytes}
 use Rattle.planner.specs.PlanOf.{plan-of}
 use Rattle.planner.specs.Planning.{plan-number, Planning}
-use Rattle.machine.specs.Cycle
-use Rattle.machine.specs.Cycle.{size, places, place, stepped}
+use Rattle.cycle.specs.Cycle
+use Rattle.cycle.specs.Cycle.{size, places, place, stepped}
 use Rattle.machine.specs.Stepping
 use Rattle.machine.specs.Stepping.{step-number, step-memory, Stepping}
-use Rattle.machine.proofs.MemoryLaws.{older}
+use Rattle.cycle.proofs.MemoryLaws.{older}
 use Rattle.machine.proofs.SteppingLaws.{step-does}
 use Rattle.demands.specs.Cases
 use Rattle.demands.specs.Cases.{loop-of-two, loop-of-one}

@@ -20,7 +20,7 @@ use Rattle.plans.specs.Plan.{Plan, node-in, switch-in, loop-length, plan-read}
 use Rattle.plans.specs.Judging.{plan-fault}
 use Rattle.planner.specs.Folds.{Folds}
 use Rattle.planner.specs.Planning.{plan-length, plan-number, Planning}
-use Rattle.machine.specs.Cycle.{size, run, leaving}
+use Rattle.cycle.specs.Cycle.{size, run, leaving}
 use Rattle.machine.specs.Stepping.{Clearing, Stepping}
 use Rattle.demands.specs.Graph.{Values, HasValues}
 use Rattle.demands.specs.Running.{Handed, Leaves, last-cycle, Runs}

@@ -1,3 +1,2 @@
 -- Laws.
-pub mod MemoryLaws
 pub mod SteppingLaws

@@ -1,3 +1,2 @@
--- What a reader must believe of the cycle machine: its memory, one cycle, and what the calls answer and leave on every input.
-pub mod Cycle
+-- What a reader must believe of the cycle machine: what the calls answer and leave on every input.
 pub mod Stepping

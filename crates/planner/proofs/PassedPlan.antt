@@ -15,7 +15,7 @@ use Rattle.words.proofs.LoopLaws.{passed?, largest-le}
 use Rattle.records.specs.declared.Node.{Node}
 use Rattle.records.specs.Units.{inputs, kind-of, inputs-of, port, adder}
 use Rattle.records.specs.Records.{whole-length}
-use Rattle.records.proofs.NodeLaws.{k-narrow}
+use Rattle.records.proofs.NodeLaws.{k-narrow, inputs-few}
 use Rattle.records.proofs.ByteLaws.{low-below, high-below}
 use Rattle.sheets.specs.Sheet.{Sheet, sheet-of, unit-of, node-of, wire-of}
 use Rattle.sheets.proofs.SheetLaws.{Passed, counts-of, unit-parts, node-parts, wire-parts, sound, fold-is, units-is, nodes-is, wires-is}
@@ -32,13 +32,6 @@ use Rattle.planner.specs.PlanOf.{plan-unit, plan-node, plan-switch, plan
 use Rattle.planner.specs.Planning.{plan-length}
 use Rattle.planner.proofs.PlanLaws.{unit-is, node-is, switch-is, units-as, nodes-as, wires-as}
 use Rattle.planner.proofs.PlanPasses.{judged-well}
-
--- a unit has at most two inputs
-inputs-few : (kind : ℕ) → inputs kind ≤ 2
-inputs-few kind = elim (passed? (eqb kind port)) [
-  | inl t ↦ rw t (omega arith)
-  | inr f ↦ elim (passed? (eqb kind adder)) [ inl t ↦ rw (f, t) (omega arith) | inr g ↦ rw (f, g) (omega arith) ]
-]
 
 module _ (b : List ℕ) (passed : Passed b) (ok : Foldable (sheet-of b)) where
   abbrev s : Sheet

@@ -1,15 +1,11 @@
 -- The plan with starts that make every wait nonnegative folds the sheet. Assumes nothing.
 use mathlib.Core.Path.{_≡_, refl, sym, ap, _∙_, subst}
-use mathlib.Core.Bool.{Bool, cond}
 use Prim.Native.Nat.{ℕ, _+_, _*_, _<_, _≤_}
 use native.Mathlib.Omega.{arith}
-use lib.Dec.{eqb}
 use lib.ListN.{length, getD}
 use lib.IntN.{ℤ, pos, _+ℤ_, _-ℤ_, _*ℤ_}
-use borrow.Author.Tests.{eq-eqb}
-use Rattle.words.specs.Loops.{largest}
 use Rattle.words.proofs.Ints.{up, down, sumℤ, difℤ, timesℤ, up-eq}
-use Rattle.words.proofs.LoopLaws.{length-tab, getD-tab, largest-ge}
+use Rattle.words.proofs.LoopLaws.{length-tab, getD-tab}
 use Rattle.records.specs.declared.Unit.{Unit}
 use Rattle.records.specs.declared.Node.{Node}
 use Rattle.sheets.specs.Sheet.{Sheet, unit-of, node-of, wire-of}
@@ -19,6 +15,7 @@ use Rattle.folding.specs.Folding.{net, depth-of, raw, wait, tap}
 use Rattle.folding.proofs.FoldingLaws.{Foldable}
 use Rattle.plans.specs.Plan.{Plan, PlanUnit, PlanNode, Switch, no-unit, no-node, no-switch, unit-in, node-in, switch-in}
 use Rattle.plans.specs.Judging.{longest-tap}
+use Rattle.plans.proofs.JudgingLaws.{longest-tap-ge}
 use Rattle.planner.specs.PlanOf.{plan-unit, plan-node, plan-switch, plan-with, plan-of}
 use Rattle.planner.specs.Folds.{Folds}
 
@@ -51,13 +48,6 @@ wait-is n w v d u x =
     let b = pos v -ℤ pos (d + u) in
     let ny : n * (up y + down x) ≡ n * (down y + (w + up x)) = ap (λ (k : ℕ). n * k) (let l : up y + down x ≡ down y + (w + up x) = omega (arith, sumℤ (pos w) x) in l) in
     up-eq (omega (arith, sumℤ a (pos n *ℤ x), difℤ (pos (n * w + v)) (pos (d + u)), timesℤ n x .0, timesℤ n x .1, timesℤ n y .0, timesℤ n y .1, sumℤ (pos n *ℤ y) b, difℤ (pos v) (pos (d + u))))
-
--- no tap passes the line that it reads
-pub longest-tap-ge : (n : ℕ) (w : ℕ → Switch) (e : ℕ) → e < n → w e .tap ≤ longest-tap n w (w e .source)
-unfolding longest-tap
-longest-tap-ge n w e h =
-    let a = largest-ge n (λ i. cond (eqb (w i .source) (w e .source)) (w i .tap) 0) e h in
-    subst (λ (b : Bool). cond b (w e .tap) 0 ≤ largest n (λ i. cond (eqb (w i .source) (w e .source)) (w i .tap) 0)) (eq-eqb (w e .source) (w e .source) refl) a
 
 -- every tap is its wire's wait
 abbrev pub Waits : Sheet → (ℕ → ℕ) → Type 0

@@ -1,20 +1,21 @@
 -- What a plan without fault has passed, and that whatever passes all of it has no fault. Assumes nothing.
 use mathlib.Core.Path.{_≡_, refl, sym, ap, _∙_, subst}
 use mathlib.Core.Logic.{_⊎_, inl, inr}
-use mathlib.Core.Bool.{Bool, true, false, not, _&&_}
+use mathlib.Core.Bool.{Bool, true, false, not, cond, _&&_}
 use mathlib.Core.List.{List}
-use Prim.Native.Nat.{ℕ, _≤_}
+use Prim.Native.Nat.{ℕ, _<_, _≤_}
 use native.Mathlib.Omega.{arith}
-use lib.Dec.{leb}
+use lib.Dec.{leb, eqb}
 use lib.ListN.{length}
-use Rattle.words.specs.Loops.{unless, _then_}
-use Rattle.words.proofs.LoopLaws.{passed?}
+use borrow.Author.Tests.{eq-eqb}
+use Rattle.words.specs.Loops.{largest, unless, _then_}
+use Rattle.words.proofs.LoopLaws.{passed?, largest-ge}
 use Rattle.words.proofs.FaultLaws.{then-split, then-join, then-one, then-le, unless-true, unless-ok, unless-le, not-true}
 use Rattle.records.specs.Units.{unit-fits}
 use Rattle.records.specs.Records.{counts-fit, reading-fault, node-fits, clashes, fed-once}
 use Rattle.records.proofs.ReadingLaws.{Read, read, faultless, reading-le}
-use Rattle.plans.specs.Plan.{Plan, unit-in, node-in, switch-in, plan-format}
-use Rattle.plans.specs.Judging.{most-chain, switch-fits, plan-feeds, figures-right, plan-faults}
+use Rattle.plans.specs.Plan.{Plan, Switch, unit-in, node-in, switch-in, plan-format}
+use Rattle.plans.specs.Judging.{most-chain, switch-fits, plan-feeds, longest-tap, figures-right, plan-faults}
 
 abbrev pub head-test : List ℕ → Plan → Bool
 head-test b p = counts-fit b && leb (p .chain) most-chain
@@ -87,3 +88,10 @@ module _ (b : List ℕ) (p : Plan) where
           | inr f ↦ inr (e ∙ ap (λ (z : Bool). unless z 9) f)
         ]
       ]
+
+-- no tap passes the line that it reads
+pub longest-tap-ge : (n : ℕ) (w : ℕ → Switch) (e : ℕ) → e < n → w e .tap ≤ longest-tap n w (w e .source)
+unfolding longest-tap
+longest-tap-ge n w e h =
+    let a = largest-ge n (λ i. cond (eqb (w i .source) (w e .source)) (w i .tap) 0) e h in
+    subst (λ (b : Bool). cond b (w e .tap) 0 ≤ largest n (λ i. cond (eqb (w i .source) (w e .source)) (w i .tap) 0)) (eq-eqb (w e .source) (w e .source) refl) a

@@ -2,3 +2,4 @@
 pub mod ConcatLaws
 pub mod PlanBytes
 pub mod JudgingLaws
+pub mod ReadLaws

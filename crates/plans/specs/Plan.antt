@@ -83,10 +83,12 @@ abbrev pub switch-bytes : Switch → List ℕ
 switch-bytes w =
     plan-format .wire-mark ++ (w .unit ∷ w .input ∷ w .slot ∷ w .source ∷ low (w .tap) ∷ high (w .tap) ∷ [])
 
+abbrev pub head-bytes : ℕ → ℕ → ℕ → ℕ → ℕ → ℕ → List ℕ
+head-bytes fold units nodes wires registers chain =
+    plan-format .header-mark ++ (fold ∷ units ∷ nodes ∷ wires ∷ low registers ∷ high registers ∷ chain ∷ [])
+
 abbrev pub header-bytes : Plan → List ℕ
-header-bytes p =
-    plan-format .header-mark
-    ++ (p .fold ∷ length (p .units) ∷ length (p .nodes) ∷ length (p .switches) ∷ low (p .registers) ∷ high (p .registers) ∷ p .chain ∷ [])
+header-bytes p = head-bytes (p .fold) (length (p .units)) (length (p .nodes)) (length (p .switches)) (p .registers) (p .chain)
 
 -- the records' bytes one after the other
 unfoldable pub concat {ℓ} : {A : Type ℓ} → (A → List ℕ) → List A → List ℕ
@@ -103,8 +105,11 @@ loop-mark = 80 ∷ 87 ∷ []
 abbrev pub loop-length : ℕ
 loop-length = 3
 
+abbrev pub loop-wire-bytes : ℕ → List ℕ
+loop-wire-bytes e = loop-mark ++ (e ∷ [])
+
 unfoldable pub loop-bytes : List ℕ → List ℕ
-loop-bytes = concat (λ e. loop-mark ++ (e ∷ []))
+loop-bytes = concat loop-wire-bytes
 
 -- ---- the plan that bytes say
 

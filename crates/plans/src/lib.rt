@@ -1,1 +1,120 @@
-// Plans.
+// Plans: the constants of their records, where each stands, and what it says.
+ghost use mathlib.Core.Path.{_≡_};
+ghost use Prim.Native.Nat.{_+_, _*_, _≤_};
+ghost use lib.ListN.{length};
+ghost use lib.IntN.{pos};
+ghost use Rattle.records.specs.Records.{two};
+ghost use Rattle.plans.specs.Heads.{joint-at};
+use words::time::Cycles;
+use words::time::Iterations;
+
+// What a plan's header says: N and the counts of units, nodes and switches.
+pub struct Plan {
+    pub fold: u8,
+    pub units: u8,
+    pub nodes: u8,
+    pub wires: u8,
+}
+
+impl Plan {
+    // Every mark of a plan begins with this letter.
+    pub const MARK: u8 = b'P';
+
+    pub const HEADER_MARK: u8 = b'H';
+
+    pub const UNIT_MARK: u8 = b'U';
+
+    pub const NODE_MARK: u8 = b'N';
+
+    pub const SWITCH_MARK: u8 = b'S';
+
+    pub const LOOP_MARK: u8 = b'W';
+
+    // Record lengths in bytes.
+    pub const HEADER: usize = 9;
+
+    pub const UNIT: usize = 7;
+
+    pub const NODE: usize = 9;
+
+    pub const SWITCH: usize = 8;
+
+    pub const LOOP: usize = 3;
+
+    pub const MOST_CHAIN: u8 = 47;
+
+    pub fn new(fold: u8, units: u8, nodes: u8, wires: u8) -> Self
+        ensures { λ r. ⌜ r ≡ record { fold = fold; units = units; nodes = nodes; wires = wires } ⌝ }
+    {
+        Self {
+            fold,
+            units,
+            nodes,
+            wires,
+        }
+    }
+
+    // Where record i of each sort begins.
+    pub fn unit_place(self, i: usize) -> usize
+        requires { ⌜ i ≤ 256 ⌝ }
+        ensures { λ r. ⌜ r ≡ 9 + 7 * i ⌝ }
+    {
+        Self::HEADER + Self::UNIT * i
+    }
+
+    pub fn node_place(self, i: usize) -> usize
+        requires { ⌜ i ≤ 256 ⌝ }
+        ensures { λ r. ⌜ r ≡ 9 + 7 * self .units + 9 * i ⌝ }
+    {
+        self.unit_place(self.units as usize) + Self::NODE * i
+    }
+
+    pub fn switch_place(self, i: usize) -> usize
+        requires { ⌜ i ≤ 256 ⌝ }
+        ensures { λ r. ⌜ r ≡ 9 + 7 * self .units + 9 * self .nodes + 8 * i ⌝ }
+    {
+        self.node_place(self.nodes as usize) + Self::SWITCH * i
+    }
+}
+
+// The line length of the unit, the start of the node and the tap of the switch at a place.
+pub fn line_at(b: &[u8], at: usize) -> Cycles
+    requires { ⌜ at + 6 ≤ length (now b) ⌝ }
+    ensures { λ r. ⌜ r .0 ≡ pos (two (now (b .entry)) (at + 4)) ⌝ }
+{
+    Cycles::of_bytes(b[at + 4], b[at + 5])
+}
+
+pub fn start_at(b: &[u8], at: usize) -> Iterations
+    requires { ⌜ at + 9 ≤ length (now b) ⌝ }
+    ensures { λ r. ⌜ r .0 ≡ pos (two (now (b .entry)) (at + 7)) ⌝ }
+{
+    Iterations::of_bytes(b[at + 7], b[at + 8])
+}
+
+pub fn tap_at(b: &[u8], at: usize) -> Cycles
+    requires { ⌜ at + 8 ≤ length (now b) ⌝ }
+    ensures { λ r. ⌜ r .0 ≡ pos (two (now (b .entry)) (at + 6)) ⌝ }
+{
+    Cycles::of_bytes(b[at + 6], b[at + 7])
+}
+
+// What a switch joins: in that slot the unit's input reads the source.
+pub struct Joint {
+    pub unit: u8,
+    pub input: u8,
+    pub slot: u8,
+    pub source: u8,
+}
+
+pub fn joint_at(b: &[u8], at: usize) -> Joint
+    requires { ⌜ at + 6 ≤ length (now b) ⌝ }
+    ensures { λ r. ⌜ r ≡ joint-at (now (b .entry)) at ⌝ }
+{
+    Joint {
+        unit: b[at + 2],
+        input: b[at + 3],
+        slot: b[at + 4],
+        source: b[at + 5],
+    }
+}

@@ -17,7 +17,7 @@ use Rattle.words.proofs.LoopLaws.{passed?, and-split}
 use Rattle.words.proofs.FaultLaws.{or-split, none-of}
 use Rattle.records.specs.declared.Unit.{Unit}
 use Rattle.records.specs.declared.Node.{Node}
-use Rattle.records.specs.Units.{op-port, op-sum, op-difference, op-scale, last-op, value, kind-of, multiplier, least-depth, most-depth, k-least, k-most, k-fits, unit-fits}
+use Rattle.records.specs.Units.{port, adder, inputs, op-port, op-sum, op-difference, op-scale, last-op, value, kind-of, multiplier, least-depth, most-depth, k-least, k-most, k-fits, unit-fits}
 use Rattle.records.specs.Records.{node-fits, clash, clashes}
 
 pub record UnitFits (u : Unit) : Type 0 where
@@ -98,7 +98,14 @@ module _ (n : ℕ) (node : ℕ → Node) (free : clashes n node ≡ false) where
     ]
   ]
 
--- ---- K and values
+-- ---- facts on a kind, and K and values
+
+-- a unit has at most two inputs
+pub inputs-few : (kind : ℕ) → inputs kind ≤ 2
+inputs-few kind = elim (passed? (eqb kind port)) [
+  | inl t ↦ rw t (omega arith)
+  | inr f ↦ elim (passed? (eqb kind adder)) [ inl t ↦ rw (f, t) (omega arith) | inr g ↦ rw (f, g) (omega arith) ]
+]
 
 -- every K fits two bytes
 pub k-narrow : (op : ℕ) (k : ℤ) → k-least op ≤ℤ k → k ≤ℤ k-most op → mag k < 32768

@@ -14,7 +14,7 @@ use borrow.Author.Tests.{lt-ltb, le-ltb}
 use Rattle.records.specs.Units.{word-before}
 use Rattle.records.specs.Records.{at}
 use Rattle.plans.specs.Plan.{Plan}
-use Rattle.machine.specs.Cycle.{places, base, size, blocks, place, cleared, result, moved, stepped, run}
+use Rattle.cycle.specs.Cycle.{places, base, size, blocks, place, cleared, result, moved, stepped, run}
 
 pub base-mono : (p : Plan) (q n : ℕ) → q ≤ n → base p q ≤ base p n
 unfolding base

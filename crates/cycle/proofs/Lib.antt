@@ -1,0 +1,5 @@
+-- Laws.
+pub mod MemoryLaws
+pub mod TakenLaws
+pub mod PartLaws
+pub mod ShiftLaws

@@ -1,0 +1,108 @@
+-- One turn more of each loop of a step, on plain values. Assumes nothing.
+use mathlib.Core.Path.{_≡_, refl, sym, ap, _∙_}
+use mathlib.Core.Logic.{_⊎_, inl, inr}
+use mathlib.Core.Bool.{Bool, true, false, _&&_}
+use mathlib.Core.List.{List}
+use Prim.Native.Nat.{ℕ, suc, _+_, _*_, _-_, _<_, _≤_}
+use native.Mathlib.Nat.{eq-or-lt-of-le}
+use native.Mathlib.Numerals.{add-one}
+use native.Mathlib.Decide.{ℕ-discrete}
+use native.Mathlib.Omega.{arith}
+use lib.Dec.{eqb}
+use lib.IntN.{ℤ, pos, natAbs}
+use borrow.Author.Tests.{eq-eqb, ne-eqb}
+use lib.ListN.{length, getD, set}
+use lib.Seq.{getD-set-same, getD-set-other}
+use Rattle.records.specs.Units.{kind-of}
+use Rattle.records.specs.Records.{at, two}
+use Rattle.records.proofs.NodeLaws.{inputs-few}
+use Rattle.plans.specs.declared.Plan as Head
+use Rattle.plans.specs.declared.Joint.{Joint}
+use Rattle.plans.specs.Heads.{joint-at}
+use Rattle.plans.specs.Plan.{PlanUnit, Switch, unit-in, node-in, switch-in, plan-read}
+use Rattle.plans.proofs.JudgingLaws.{longest-tap-ge}
+use Rattle.cycle.specs.declared.Lines.{Lines}
+use Rattle.cycle.specs.Cycle.{base, places, size}
+use Rattle.cycle.specs.Taken.{Taken, LinesOf, last-of, Gathered, input-place, tapped-place}
+use Rattle.cycle.proofs.TakenLaws.{few-units, places-so, units-so, wires-so, unit-so, switch-so, unit-fine, switch-fine, line-so}
+use Rattle.cycle.proofs.MemoryLaws.{base-next}
+
+module _ (b : List ℕ) (p : Head.Plan) (t : Taken b p) where
+  -- unit q's places begin where the units' before it end
+  pub lines-more : (q : ℕ) → q < p .units → (size n : ℕ) (l : List ℕ) → length l ≡ 8 → size ≡ suc (base (plan-read b) q) →
+      n ≡ at b (9 + 7 * q + 3) + two b (9 + 7 * q + 4) → ((k : ℕ) → k < q → getD l k 0 ≡ suc (base (plan-read b) k)) →
+      (size + n ≡ suc (base (plan-read b) (q + 1))) × ((k : ℕ) → k < q + 1 → getD (set l q size) k 0 ≡ suc (base (plan-read b) k))
+  unfolding base
+  lines-more q h size n l l8 s e before =
+      let pl = plan-read b in
+      let next : base pl (q + 1) ≡ base pl q + places pl q = ap (base pl) (add-one q) in (
+        omega (arith, next, places-so b p t q h),
+        λ k hk. elim (eq-or-lt-of-le hk) [
+          | inl same ↦ let k-q : k ≡ q = omega arith in rw k-q (getD-set-same l q size 0 (omega (arith, few-units b p t)) ∙ s)
+          | inr less ↦ getD-set-other l q k size 0 (λ same. omega arith) ∙ before k (omega arith)
+        ],
+      )
+
+-- ---- what records bring
+
+module _ (chosen : ℕ → Bool) (place brings : ℕ → ℕ) (many n : ℕ) (l : List ℕ) (before : Gathered n chosen place brings many l) where
+  -- record n is chosen: what it brings goes to its place
+  pub gathered-in : length l ≡ many → chosen n ≡ true → place n < many → (w : ℕ) → w ≡ brings n → Gathered (n + 1) chosen place brings many (set l (place n) w)
+  unfolding last-of
+  gathered-in long picked fits w is k hk =
+      rw (add-one n, picked) (elim (ℕ-discrete (place n) k) [
+        | yes same ↦ rw (eq-eqb (place n) k same) (ap (λ (z : ℕ). getD (set l z w) k 0) same ∙ getD-set-same l k w 0 (omega arith) ∙ is)
+        | no other ↦ rw (ne-eqb (place n) k other) (getD-set-other l (place n) k w 0 (λ same. other (sym same)) ∙ before k hk)
+      ])
+
+  -- it is not chosen: nothing changes
+  pub gathered-past : chosen n ≡ false → Gathered (n + 1) chosen place brings many l
+  unfolding last-of
+  gathered-past passed k hk = rw (add-one n, passed) (before k hk)
+
+-- ---- the place that a switch reads
+
+module _ (b : List ℕ) (p : Head.Plan) (t : Taken b p) where
+  pub depth-so : (q : ℕ) → q < p .units → (unit-in (plan-read b) q .unit .depth ≡ at b (9 + 7 * q + 3)) × (0 < unit-in (plan-read b) q .unit .depth)
+  depth-so q h = (ap (λ (u : PlanUnit). u .unit .depth) (unit-so b p t q h), unit-fine b p t q h .deep)
+
+  pub source-so : (e : ℕ) → e < p .wires → (switch-in (plan-read b) e .source ≡ at b (9 + 7 * p .units + 9 * p .nodes + 8 * e + 5)) × (switch-in (plan-read b) e .source < p .units)
+  source-so e h = (ap (λ (w : Switch). w .source) (switch-so b p t e h), omega (arith, switch-fine b p t e h .from-unit, units-so b p t))
+
+  -- the place lies in the memory
+  pub place-inside : (e : ℕ) → e < p .wires →
+      base (plan-read b) (switch-in (plan-read b) e .source) + (unit-in (plan-read b) (switch-in (plan-read b) e .source) .unit .depth - 1 + switch-in (plan-read b) e .tap) < base (plan-read b) (length (plan-read b .units))
+  place-inside e h =
+      let pl = plan-read b in
+      let q = switch-in pl e .source in
+      let few = source-so e h .1 in
+      let long = longest-tap-ge (length (pl .switches)) (switch-in pl) e (omega (arith, wires-so b p t)) in
+      omega (arith, line-so b p t q few, depth-so q few .1, base-next pl q (length (pl .units)) (omega (arith, units-so b p t)))
+
+  -- the index that the code works out, from what it read of the plan, is that place
+  pub place-read : (lines : Lines) → LinesOf (plan-read b) lines → (e : ℕ) → e < p .wires → (source depth : ℕ) (tap : ℤ) (place : ℕ) →
+      source ≡ switch-in (plan-read b) e .source → depth ≡ unit-in (plan-read b) source .unit .depth → tap ≡ pos (switch-in (plan-read b) e .tap) → place ≡ depth - 1 + natAbs tap →
+      (getD (lines .at) source 0 + place ≡ tapped-place (plan-read b) e) × (getD (lines .at) source 0 + place < size (plan-read b))
+  unfolding size
+  place-read lines so e h source depth tap place es ed et ep =
+      let pl = plan-read b in
+      let q = switch-in pl e .source in
+      let few = source-so e h .1 in
+      let at-q : getD (lines .at) source 0 ≡ suc (base pl q) = ap (λ (z : ℕ). getD (lines .at) z 0) es ∙ so .at q (omega (arith, units-so b p t)) in
+      let deep : depth ≡ unit-in pl q .unit .depth = ed ∙ ap (λ (z : ℕ). unit-in pl z .unit .depth) es in
+      let far : natAbs tap ≡ switch-in pl e .tap = ap natAbs et in
+      let is : getD (lines .at) source 0 + place ≡ suc (base pl q + (unit-in pl q .unit .depth - 1 + switch-in pl e .tap)) = omega arith in
+      (is, omega (arith, is, place-inside e h))
+
+  -- what a switch's joint says, and that its input is one of sixteen
+  pub joint-so : (e : ℕ) → e < p .wires → (j : Joint) → j ≡ joint-at b (9 + 7 * p .units + 9 * p .nodes + 8 * e) →
+      (j .slot ≡ switch-in (plan-read b) e .slot) × (2 * j .unit + j .input ≡ input-place (plan-read b) e) × (input-place (plan-read b) e < 16)
+  joint-so e h j is =
+      let w = switch-in (plan-read b) e in
+      let f = switch-fine b p t e h in
+      let few = inputs-few (kind-of (node-in (plan-read b) (f .node) .node .op)) in
+      let so = switch-so b p t e h in (
+        ap (λ (j : Joint). j .slot) is ∙ sym (ap (λ (w : Switch). w .slot) so),
+        ap (λ (j : Joint). 2 * j .unit + j .input) is ∙ sym (ap (λ (w : Switch). 2 * w .unit + w .input) so),
+        omega (arith, f .on-unit, f .input-fits, few, units-so b p t, few-units b p t),
+      )

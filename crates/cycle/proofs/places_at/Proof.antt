@@ -1,0 +1,43 @@
+use Prim.Native.Nat.{_+_}
+use mathlib.Core.Path.{ap, _∙_}
+use native.Mathlib.Omega.{arith}
+use lib.IntN.{ℤ, natAbs}
+use Rattle.words.proofs.Ints.{from-pos}
+use Rattle.records.specs.Records.{at, two}
+use borrow.Author.Needs.{needs}
+use Rattle.cycle.proofs.places_at.Statement.{statement}
+use Rattle.cycle.proofs.places_at.Tie as tie
+use Rattle.cycle.proofs.places_at.Reads as reads
+use Rattle.cycle.proofs.places_at.Lts as lts
+use Rattle.plans.proofs.line_at.Reads as line-at-reads
+use Rattle.words.proofs.time.Cycles.places.Reads as places-reads
+
+-- src/lib.rt:21:5
+line-at-requires : tie.Need-line-at-requires
+line-at-requires c κs = search needs
+
+-- src/lib.rt:21:41
+add-places : tie.Need-add-places
+add-places c = search needs
+
+-- src/lib.rt:21:36
+shared-slice-read-places : tie.Need-shared-slice-read-places
+shared-slice-read-places c = search needs
+
+-- src/lib.rt:21:5
+places-requires : tie.Need-places-requires
+places-requires c κs =
+    let a = c .before .before .before .args in
+    from-pos (two (a .plan .now) (a .o + 4)) (c .before .line-at .ensures)
+
+returns : tie.Need-returns
+returns c =
+    let a = c .before .before .before .before .args in
+    let is = c .places .ensures ∙ ap (λ (z : ℤ). at (a .plan .now) (a .o + 3) + natAbs z) (c .before .before .line-at .ensures) in
+    let byte = c .before .shared-slice-known2 .given in
+    (is, omega (arith, is, byte (a .o + 3), byte (a .o + 4), byte (a .o + 4 + 1)))
+
+pub places-at-spec : {M : Type 1} → statement M
+places-at-spec =
+    tie.close
+    (tie.spec line-at-requires add-places shared-slice-read-places places-requires returns)

@@ -1,0 +1,25 @@
+-- `cycle::tap_of` meets its contract: the two bytes are the switch's tap. Assumes nothing.
+use native.Mathlib.Omega.{arith}
+use mathlib.Core.Path.{sym, ap, _∙_}
+use lib.IntN.{pos}
+use Rattle.plans.specs.Plan.{Switch}
+use Rattle.cycle.proofs.TakenLaws.{switch-inside, switch-so}
+use borrow.Author.Needs.{needs}
+use Rattle.cycle.proofs.tap_of.Statement.{statement}
+use Rattle.cycle.proofs.tap_of.Tie as tie
+
+switch-place-requires : tie.Need-switch-place-requires
+switch-place-requires c κs = search needs
+
+tap-at-requires : tie.Need-tap-at-requires
+tap-at-requires c κs =
+    let s = c .before .before in
+    omega (arith, c .switch-place .ensures, switch-inside (s .args .plan .now) (s .args .p) (s .pre .0) (s .args .e) (s .pre .1))
+
+returns : tie.Need-returns
+returns c =
+    let s = c .before .before .before in
+    c .tap-at .ensures ∙ rw (c .before .switch-place .ensures) (ap (λ (w : Switch). pos (w .tap)) (sym (switch-so (s .args .plan .now) (s .args .p) (s .pre .0) (s .args .e) (s .pre .1))))
+
+pub tap-of-spec : {M : Type 1} → statement M
+tap-of-spec = tie.close (tie.spec switch-place-requires tap-at-requires returns)
