@@ -7,6 +7,7 @@ ghost use Rattle.records.specs.Records.{most-units};
 ghost use Rattle.records.specs.Answers.{unit-part, units-in-run, Inside};
 ghost use Rattle.records.specs.Feeding.{most-inputs, mask-of, unit-fed, units-fed};
 use crate::Unit;
+use crate::reading::Header;
 use crate::reading::Run;
 use crate::reading::unit_in;
 
@@ -31,7 +32,12 @@ impl Input {
 // The masks of the inputs fed, and whether one is fed twice.
 pub struct Fed {
     pub twice: bool,
-    pub masks: [u32; 16],
+    pub masks: [u32; Fed::MASKS],
+}
+
+impl Fed {
+    // One mask for each input of each unit.
+    pub const MASKS: usize = Unit::MOST_INPUTS * Header::MOST_UNITS;
 }
 
 // Whether each input that the kind has is fed in the occupied slots, and in no other.
@@ -43,7 +49,12 @@ fn unit_fed(kind: u8, occupied: u32, first: u32, second: u32) -> bool
 }
 
 // Whether each unit's inputs are fed in its occupied slots, and in no other.
-pub fn units_fed(b: &[u8], units: Run, occupied: [u32; 8], masks: [u32; 16]) -> bool
+pub fn units_fed(
+    b: &[u8],
+    units: Run,
+    occupied: [u32; Header::MOST_UNITS],
+    masks: [u32; Fed::MASKS],
+) -> bool
     requires { ⌜ Inside unit-part units (length (now b)) ⌝ }
     requires { ⌜ units .count ≤ most-units ⌝ }
     ensures { λ r. ⌜ r ≡ units-fed (units .count) (units-in-run (now (b .entry)) units) occupied masks ⌝ }

@@ -40,7 +40,7 @@ impl Unit {
     // Channels, the K of a port.
     pub const CHANNELS: usize = 16;
 
-    pub const LAST_CHANNEL: i16 = 15;
+    pub const LAST_CHANNEL: i16 = Self::CHANNELS as i16 - 1;
 
     pub const LEAST_GAIN: i16 = -32768;
 

@@ -34,13 +34,13 @@ pub struct Header {
 }
 
 impl Header {
-    pub const MOST_FOLD: u8 = 32;
+    pub const MOST_FOLD: usize = 32;
 
-    pub const MOST_UNITS: u8 = 8;
+    pub const MOST_UNITS: usize = 8;
 
-    pub const MOST_NODES: u8 = 48;
+    pub const MOST_NODES: usize = 48;
 
-    pub const MOST_WIRES: u8 = 96;
+    pub const MOST_WIRES: usize = 96;
 
     pub fn new(fold: u8, units: u8, nodes: u8, wires: u8) -> Self
         ensures { λ r. ⌜ r ≡ record { fold = fold; units = units; nodes = nodes; wires = wires } ⌝ }
@@ -57,10 +57,10 @@ impl Header {
     pub fn fits(self) -> bool
         ensures { λ r. ⌜ r ≡ header-fits self ⌝ }
     {
-        ((1 <= self.fold) & (self.fold <= Self::MOST_FOLD))
-            & ((1 <= self.units) & (self.units <= Self::MOST_UNITS))
-            & ((1 <= self.nodes) & (self.nodes <= Self::MOST_NODES))
-            & (self.wires <= Self::MOST_WIRES)
+        ((1 <= self.fold) & (self.fold as usize <= Self::MOST_FOLD))
+            & ((1 <= self.units) & (self.units as usize <= Self::MOST_UNITS))
+            & ((1 <= self.nodes) & (self.nodes as usize <= Self::MOST_NODES))
+            & (self.wires as usize <= Self::MOST_WIRES)
     }
 }
 

@@ -10,6 +10,7 @@ ghost use Rattle.records.specs.Answers.{node-part, nodes-in-run, Inside}
 ghost use Rattle.records.specs.Slots.{Masked, channel-of, SlotsOf};
 use crate::Node;
 use crate::Unit;
+use crate::reading::Header;
 use crate::reading::Run;
 use crate::reading::node_in;
 use words::masks;
@@ -17,7 +18,7 @@ use words::masks;
 // The masks of the units' occupied slots, and whether two nodes clash.
 pub struct Slots {
     pub clash: bool,
-    pub occupied: [u32; 8],
+    pub occupied: [u32; Header::MOST_UNITS],
 }
 
 // Whether a port's channel is taken.
@@ -47,7 +48,7 @@ pub fn slots_in(b: &[u8], nodes: Run) -> Slots
     ensures { λ r. ⌜ SlotsOf (nodes .count) (nodes-in-run (now (b .entry)) nodes) r ⌝ }
 {
     let mut clash = false;
-    let mut occupied = [0u32; 8];
+    let mut occupied = [0u32; Header::MOST_UNITS];
     let mut channels = 0;
     let mut x = 0;
     while x < nodes.count {

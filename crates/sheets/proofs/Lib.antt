@@ -5,3 +5,4 @@ pub mod WireLaws
 pub mod MaskedLaws
 pub mod PartLaws
 pub mod FeedLaws
+pub mod AnswerLaws

@@ -1,5 +1,6 @@
 -- A sheet's first fault is that of its parts in 01's order: the header; the length and the records; clashes and inputs. Assumes nothing.
 use mathlib.Core.Path.{_≡_, refl, sym, ap, subst⁻¹, _∙_}
+use mathlib.Core.Bool.{true}
 use mathlib.Core.List.{List}
 use Prim.Native.Nat.{ℕ, zero, suc, _^_, _<_}
 use native.Mathlib.Omega.{arith}
@@ -70,6 +71,14 @@ regrouped : (a l u n e c d : ℕ) → (a then l then u then n then e then c then
 regrouped zero l u n e c d = then-assoc (l then u then n then e) c d
 regrouped (suc a) l u n e c d = refl
 
+head-first : (a rest : ℕ) (s : Header) (why : Reason) → answer (S.Got s) S.Refused a ≡ S.Refused why → answer (S.Got s) S.Refused (a then rest) ≡ S.Refused why
+head-first zero rest s why e = let z : _≡_ {A = ℕ} 0 1 = cc in absurd (omega arith)
+head-first (suc a) rest s why e = e
+
+pub head-none : (a : ℕ) (s t : Header) → answer (S.Got s) S.Refused a ≡ S.Got t → (a ≡ 0) × (t ≡ s)
+head-none zero s t e = (refl, cc)
+head-none (suc a) s t e = let z : _≡_ {A = ℕ} 0 1 = cc in absurd (omega arith)
+
 module _ (b : List ℕ) where
   units-same : first (units-in b) (λ i. record-fault b (unit-place sheet-format b i) (sheet-format .unit-mark) (unit-fits (unit-of (sheet-of b) i)))
       ≡ units-fault b (unit-run sheet-format (units-in b))
@@ -98,24 +107,20 @@ module _ (b : List ℕ) where
 
   -- ---- the answer, part by part
 
-  head-first : (a rest : ℕ) (s : Header) (why : Reason) → answer (S.Got s) S.Refused a ≡ S.Refused why → answer (S.Got s) S.Refused (a then rest) ≡ S.Refused why
-  head-first zero rest s why e = let z : _≡_ {A = ℕ} 0 1 = cc in absurd (omega arith)
-  head-first (suc a) rest s why e = e
-
-  head-none : (a : ℕ) (s t : Header) → answer (S.Got s) S.Refused a ≡ S.Got t → (a ≡ 0) × (t ≡ s)
-  head-none zero s t e = (refl, cc)
-  head-none (suc a) s t e = let z : _≡_ {A = ℕ} 0 1 = cc in absurd (omega arith)
-
   pub head-refused : (why : Reason) → header-answer b ≡ S.Refused why → S.Refused why ≡ sheet-answer b
   unfolding header-answer sheet-answer
   head-refused why e = rw parts (sym (head-first (head-fault b) (records-fault b then nodes-fault (sheet-of b)) (header-of b) why e))
+
+  pub head-counts : head-fault b ≡ 0 → counts-fit b ≡ true
+  head-counts z =
+      let t = then-split (unless (leb (sheet-format .header-length) (length b)) 1) (record-fault b 0 (sheet-format .header-mark) (counts-fit b)) z in
+      record-split b 0 (sheet-format .header-mark) (counts-fit b) (t .1) .1
 
   pub head-got : (s : Header) → header-answer b ≡ S.Got s → (head-fault b ≡ 0) × HeaderSaid b s
   unfolding header-answer
   head-got s e =
       let h = head-none (head-fault b) (header-of b) s e in
-      let t = then-split (unless (leb (sheet-format .header-length) (length b)) 1) (record-fault b 0 (sheet-format .header-mark) (counts-fit b)) (h .0) in
-      (h .0, record { said = h .1; counts = record-split b 0 (sheet-format .header-mark) (counts-fit b) (t .1) .1 })
+      (h .0, record { said = h .1; counts = head-counts (h .0) })
 
   module _ (z : head-fault b ≡ 0) where
     after-head : sheet-fault b ≡ (records-fault b then nodes-fault (sheet-of b))

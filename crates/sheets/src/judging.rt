@@ -162,7 +162,7 @@ fn fed_of(b: &[u8], sheet: Sheet) -> Fed
 {
     let count = sheet.wires as usize;
     let mut twice = false;
-    let mut fed = [0u32; 16];
+    let mut fed = [0u32; Fed::MASKS];
     let mut e = 0;
     while e < count {
         let to = input_of(b, sheet, e);

@@ -42,11 +42,13 @@ impl Sheet {
 
     pub const WIRE_LENGTH: usize = 6;
     // Limits.
-    pub const MOST_UNITS: usize = Header::MOST_UNITS as usize;
+    pub const MOST_FOLD: usize = Header::MOST_FOLD;
 
-    pub const MOST_NODES: usize = Header::MOST_NODES as usize;
+    pub const MOST_UNITS: usize = Header::MOST_UNITS;
 
-    pub const MOST_WIRES: usize = Header::MOST_WIRES as usize;
+    pub const MOST_NODES: usize = Header::MOST_NODES;
+
+    pub const MOST_WIRES: usize = Header::MOST_WIRES;
 
     pub const MOST_DELAYS: u8 = 63;
 

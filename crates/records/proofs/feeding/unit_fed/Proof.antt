@@ -1,12 +1,11 @@
+-- `records::feeding::unit_fed` meets its contract: its tests are the definition's. Assumes nothing.
 use borrow.Author.Needs.{needs}
 use Rattle.records.proofs.feeding.unit_fed.Statement.{statement}
 use Rattle.records.proofs.feeding.unit_fed.Tie as tie
 
--- src/feeding.rt:42:9
 inputs-requires : tie.Need-inputs-requires
 inputs-requires c κs = search needs
 
--- src/feeding.rt:39:1
 returns : tie.Need-returns
 returns c = simp (c .inputs .ensures)
 

@@ -1,3 +1,4 @@
+-- `records::reading::node_judged` meets its contract: a reason is answered at its own number. Assumes nothing.
 use mathlib.Core.Path.{sym, ap, _∙_}
 use Rattle.records.specs.declared.reading.NodeRead.{NodeRead}
 use Rattle.records.specs.declared.reading.Judged.the-variants as J
@@ -7,19 +8,15 @@ use borrow.Author.Needs.{needs}
 use Rattle.records.proofs.reading.node_judged.Statement.{statement}
 use Rattle.records.proofs.reading.node_judged.Tie as tie
 
--- src/reading.rt:240:29
 enum-told : tie.Need-enum-told
 enum-told c = search needs
 
--- src/reading.rt:241:27
 enum-known-got : tie.Need-enum-known-got
 enum-known-got c = search needs
 
--- src/reading.rt:236:1
 returns : tie.Need-returns
 returns c = search needs
 
--- src/reading.rt:236:1
 returns-2 : tie.Need-returns-2
 returns-2 c = sym (ap (λ (r : NodeRead). judged (node-number r)) (c .before .got .given .1) ∙ answer-reason J.Passed J.Refused _)
 

@@ -1,38 +1,31 @@
+-- `records::reading::two_at` meets its contract: two bytes are below 2^16. Assumes nothing.
 use Prim.Native.Nat.{_+_}
 use native.Mathlib.Omega.{arith}
 use borrow.Author.Needs.{needs}
 use Rattle.records.proofs.reading.two_at.Statement.{statement}
 use Rattle.records.proofs.reading.two_at.Tie as tie
 
--- src/reading.rt:130:5
 shared-slice-read-result : tie.Need-shared-slice-read-result
 shared-slice-read-result c = search needs
 
--- src/reading.rt:130:5
 cast-result : tie.Need-cast-result
 cast-result c = omega (arith, c .shared-slice-known .given (c .before .args .at))
 
--- src/reading.rt:130:29
 add-result : tie.Need-add-result
 add-result c = search needs
 
--- src/reading.rt:130:27
 shared-slice-read-result-2 : tie.Need-shared-slice-read-result-2
 shared-slice-read-result-2 c = search needs
 
--- src/reading.rt:130:27
 cast-result-2 : tie.Need-cast-result-2
 cast-result-2 c = omega (arith, c .shared-slice-known2 .given (c .before .before .args .at + 1))
 
--- src/reading.rt:130:20
 mul-result : tie.Need-mul-result
 mul-result c = omega (arith, c .shared-slice-known2 .given (c .before .before .args .at + 1))
 
--- src/reading.rt:130:5
 add-result-2 : tie.Need-add-result-2
 add-result-2 c = let a = c .before .before .args .at in omega (arith, c .shared-slice-known2 .given a, c .shared-slice-known2 .given (a + 1))
 
--- src/reading.rt:126:1
 returns : tie.Need-returns
 returns c = search needs
 

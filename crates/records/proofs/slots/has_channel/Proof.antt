@@ -1,4 +1,4 @@
--- `records::slots::has_channel` meets its contract. Assumes nothing.
+-- `records::slots::has_channel` meets its contract: the channel of a port is looked up in the mask. Assumes nothing.
 use mathlib.Core.Path.{ap, _∙_}
 use mathlib.Core.Bool.{Bool, _&&_}
 use native.Mathlib.Omega.{arith}

@@ -41,7 +41,7 @@ array-read-has-slot : tie.Need-array-read-has-slot Inv-loop μ-loop
 array-read-has-slot c = room (c .before) .on-unit
 
 has-slot-requires : tie.Need-has-slot-requires Inv-loop μ-loop
-has-slot-requires c κs = room (c .before) .in-turn
+has-slot-requires c κs = let r = room (c .before) in omega (arith, r .on-unit, r .in-turn)
 
 has-channel-requires : tie.Need-has-channel-requires Inv-loop μ-loop
 has-channel-requires c κs = room (c .before .before)

@@ -1,4 +1,4 @@
--- `records::slots::with_channel` meets its contract. Assumes nothing.
+-- `records::slots::with_channel` meets its contract: the channel of a port is put into the mask. Assumes nothing.
 use mathlib.Core.Path.{ap, _∙_}
 use native.Mathlib.Omega.{arith}
 use borrow.Author.Needs.{needs}

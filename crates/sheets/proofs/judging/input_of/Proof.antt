@@ -9,7 +9,6 @@ use Rattle.sheets.specs.Sheet.{sheet-of, node-of}
 use Rattle.sheets.proofs.SheetLaws.{nodes-is, wires-is}
 use Rattle.sheets.proofs.HeldLaws.{nodes-said, wires-said}
 use Rattle.sheets.proofs.MaskedLaws.{wire-fit}
-use mathlib.Core.Path.{ap, ap₂, _∙_}
 use borrow.Author.Needs.{needs}
 use Rattle.sheets.proofs.judging.input_of.Statement.{statement}
 use Rattle.sheets.proofs.judging.input_of.Tie as tie

@@ -1,4 +1,4 @@
--- `sheets::judging::sheet_read` meets its contract. Assumes nothing.
+-- `sheets::judging::sheet_read` meets its contract: the header's numbers are the sheet's. Assumes nothing.
 use mathlib.Core.Path.{sym, ap, _∙_}
 use Rattle.sheets.specs.declared.judging.SheetRead.the-variants as S
 use Rattle.sheets.specs.Answers.{sheet-read}

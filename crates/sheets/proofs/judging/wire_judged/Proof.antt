@@ -1,4 +1,4 @@
--- `sheets::judging::wire_judged` meets its contract. Assumes nothing.
+-- `sheets::judging::wire_judged` meets its contract: a reason is answered at its own number. Assumes nothing.
 use mathlib.Core.Path.{sym, ap, _∙_}
 use Rattle.records.specs.declared.reading.Judged.the-variants as J
 use Rattle.records.specs.Answers.{judged}
