@@ -1,0 +1,56 @@
+-- The net that a sheet's wire records and their bounds say, read where they stand, and what the rounds over it are asked and answer.
+-- Assumes nothing.
+use mathlib.Core.Path.{_≡_}
+use mathlib.Core.Bool.{Bool, true}
+use mathlib.Core.List.{List}
+use Prim.Native.Nat.{ℕ, _+_, _*_, _-_, _<_, _≤_}
+use lib.ListN.{length, getD}
+use lib.IntN.{ℤ, pos, negsuc, _+ℤ_}
+use lib.Signed.{ltZ, _≤ℤ_}
+use mir.Syntax.{w32}
+use mir.Val.{SFits}
+use Rattle.words.specs.declared.time.Iterations.{Iterations}
+use Rattle.words.specs.Loops.{tab, some-of}
+use Rattle.records.specs.Records.{most-nodes, most-wires}
+use Rattle.sheets.specs.Sheet.{sheet-format, wire-at}
+use Rattle.folding.specs.Walks.{Net, better}
+use Rattle.rounds.specs.declared.Relaxed.{Relaxed}
+
+-- the number of element i
+abbrev pub number-at : List Iterations → ℕ → ℤ
+number-at l i = getD l i (record { 0 = pos 0 }) .0
+
+-- the totals of the first n nodes
+abbrev pub row-of : ℕ → List Iterations → List ℤ
+row-of n l = tab n (number-at l)
+
+-- the wires whose records stand in b from byte `at` on, each with its bound
+abbrev pub bytes-net : List ℕ → ℕ → ℕ → ℕ → List Iterations → Net
+bytes-net b at nodes wires bounds = record {
+  nodes = nodes;
+  wires = wires;
+  from = λ e. wire-at b (at + sheet-format .wire-length * e) .from;
+  to = λ e. wire-at b (at + sheet-format .wire-length * e) .to;
+  bound = number-at bounds;
+}
+
+-- the records stand in b, and their ends are nodes
+pub record Wired (b : List ℕ) (at nodes wires : ℕ) : Type 0 where
+  pub few-nodes : nodes ≤ most-nodes
+  pub few-wires : wires ≤ most-wires
+  pub inside : at + sheet-format .wire-length * wires ≤ length b
+  pub leaves : (e : ℕ) → e < wires → wire-at b (at + sheet-format .wire-length * e) .from < nodes
+  pub meets : (e : ℕ) → e < wires → wire-at b (at + sheet-format .wire-length * e) .to < nodes
+
+-- what each wire comes to fits
+abbrev pub SumsFit : Net → (ℕ → ℤ) → Type 0
+SumsFit g d = (e : ℕ) → e < g .wires → SFits w32 (g .bound e +ℤ d (g .to e))
+
+-- some wire's bound is not met by the totals d
+unfoldable pub unmet : Net → (ℕ → ℤ) → Bool
+unmet g d = some-of (g .wires) (λ e. ltZ (g .bound e +ℤ d (g .to e)) (d (g .from e)))
+
+-- one round's answer to the totals d
+pub record Improved (g : Net) (d : ℕ → ℤ) (r : Relaxed) : Type 0 where
+  pub totals : (u : ℕ) → number-at (r .totals) u ≡ better g d u (g .wires)
+  pub changed : r .changed ≡ unmet g d
