@@ -9,3 +9,4 @@ pub mod LiveLaws
 pub mod SizeLaws
 pub mod WaitingLaws
 pub mod AlikeLaws
+pub mod SettleLaws

@@ -1,2 +1,3 @@
 -- Laws.
 pub mod StepLaws
+pub mod RowLaws

@@ -12,9 +12,10 @@ use mir.Val.{SFits}
 use Rattle.words.specs.declared.time.Iterations.{Iterations}
 use Rattle.words.specs.Loops.{tab, some-of}
 use Rattle.records.specs.Records.{most-nodes, most-wires}
-use Rattle.sheets.specs.Sheet.{sheet-format, wire-at}
-use Rattle.folding.specs.Walks.{Net, better}
+use Rattle.sheets.specs.Sheet.{sheet-format, wire-at, most-delays}
+use Rattle.folding.specs.Walks.{Net, better, chain, foldable, latest}
 use Rattle.rounds.specs.declared.Relaxed.{Relaxed}
+use Rattle.rounds.specs.declared.Settled.{Settled}
 
 -- the number of element i
 abbrev pub number-at : List Iterations → ℕ → ℤ
@@ -36,6 +37,7 @@ bytes-net b at nodes wires bounds = record {
 
 -- the records stand in b, and their ends are nodes
 pub record Wired (b : List ℕ) (at nodes wires : ℕ) : Type 0 where
+  pub some-node : 0 < nodes
   pub few-nodes : nodes ≤ most-nodes
   pub few-wires : wires ≤ most-wires
   pub inside : at + sheet-format .wire-length * wires ≤ length b
@@ -54,3 +56,14 @@ unmet g d = some-of (g .wires) (λ e. ltZ (g .bound e +ℤ d (g .to e)) (d (g .f
 pub record Improved (g : Net) (d : ℕ → ℤ) (r : Relaxed) : Type 0 where
   pub totals : (u : ℕ) → number-at (r .totals) u ≡ better g d u (g .wires)
   pub changed : r .changed ≡ unmet g d
+
+-- no bound is below −16 or above 63: "depth 1 to 16, delays 0 to 63"
+pub record Moderate (g : Net) : Type 0 where
+  pub low : (e : ℕ) → e < g .wires → negsuc 15 ≤ℤ g .bound e
+  pub high : (e : ℕ) → e < g .wires → g .bound e ≤ℤ pos most-delays
+
+-- all rounds' answer: whether the net folds, and where it does the chain and every h
+pub record Settling (g : Net) (r : Settled) : Type 0 where
+  pub settled : r .settled ≡ foldable g
+  pub rounds : foldable g ≡ true → r .rounds ≡ chain g
+  pub totals : foldable g ≡ true → row-of (g .nodes) (r .totals) ≡ latest g

@@ -1,10 +1,11 @@
 // Rounds of relaxation over a sheet's wires. Assumes nothing.
 ghost use mathlib.Core.Path.{_≡_};
-ghost use Prim.Native.Nat.{_+_, _*_, _<_};
+ghost use Prim.Native.Nat.{ℕ, _+_, _*_, _<_};
 ghost use lib.ListN.{length, getD};
+ghost use lib.IntN.{pos};
 ghost use Rattle.records.specs.Records.{most-nodes};
 ghost use Rattle.sheets.specs.Sheet.{sheet-format};
-ghost use Rattle.rounds.specs.Rounds.{number-at, bytes-net, Wired, SumsFit, Improved};
+ghost use Rattle.rounds.specs.Rounds.{number-at, bytes-net, Wired, SumsFit, Improved, Moderate, Settling};
 use words::time::Iterations;
 
 pub struct Relaxed {
@@ -58,4 +59,46 @@ pub fn round(b: &[u8], at: usize, wires: usize, bounds: [Iterations; 96], former
         e += 1;
     }
     Relaxed { totals, changed }
+}
+
+// What the rounds come to.
+pub struct Settled {
+    pub totals: [Iterations; 48],
+    pub rounds: u8,
+    pub settled: bool,
+}
+
+fn no_totals() -> [Iterations; 48]
+    ensures { λ r. ⌜ ((u : ℕ) → number-at r u ≡ pos 0) ⌝ }
+{
+    [Iterations::zero(); Layout::NODES]
+}
+
+// Rounds until nothing changes, at most as many as there are nodes.
+pub fn settle(b: &[u8], at: usize, wires: usize, nodes: usize, bounds: [Iterations; 96]) -> Settled
+    requires { ⌜ Wired (now b) at nodes wires ⌝ }
+    requires { ⌜ Moderate (bytes-net (now b) at nodes wires bounds) ⌝ }
+    ensures { λ r. ⌜ Settling (bytes-net (now (b .entry)) at nodes wires bounds) r ⌝ }
+{
+    let made = no_totals();
+    let mut totals = made;
+    let mut k = 0;
+    while k < nodes {
+        let next = round(b, at, wires, bounds, totals);
+        if !next.changed {
+            return Settled {
+                totals,
+                rounds: k as u8,
+                settled: true,
+            };
+        }
+        let after = next.totals;
+        totals = after;
+        k += 1;
+    }
+    Settled {
+        totals,
+        rounds: k as u8,
+        settled: false,
+    }
 }
