@@ -1,3 +1,4 @@
 -- Laws.
 pub mod StepLaws
 pub mod RowLaws
+pub mod ShiftLaws

@@ -5,7 +5,7 @@ use mathlib.Core.Bool.{Bool, true}
 use mathlib.Core.List.{List}
 use Prim.Native.Nat.{ℕ, _+_, _*_, _-_, _<_, _≤_}
 use lib.ListN.{length, getD}
-use lib.IntN.{ℤ, pos, negsuc, _+ℤ_}
+use lib.IntN.{ℤ, pos, negsuc, _+ℤ_, _-ℤ_}
 use lib.Signed.{ltZ, _≤ℤ_}
 use mir.Syntax.{w32}
 use mir.Val.{SFits}
@@ -13,7 +13,7 @@ use Rattle.words.specs.declared.time.Iterations.{Iterations}
 use Rattle.words.specs.Loops.{tab, some-of}
 use Rattle.records.specs.Records.{most-nodes, most-wires}
 use Rattle.sheets.specs.Sheet.{sheet-format, wire-at, most-delays}
-use Rattle.folding.specs.Walks.{Net, better, chain, foldable, latest}
+use Rattle.folding.specs.Walks.{Net, better, chain, foldable, latest, deepest}
 use Rattle.rounds.specs.declared.Relaxed.{Relaxed}
 use Rattle.rounds.specs.declared.Settled.{Settled}
 
@@ -67,3 +67,7 @@ pub record Settling (g : Net) (r : Settled) : Type 0 where
   pub settled : r .settled ≡ foldable g
   pub rounds : foldable g ≡ true → r .rounds ≡ chain g
   pub totals : foldable g ≡ true → row-of (g .nodes) (r .totals) ≡ latest g
+
+-- "One constant is added to all values so that the smallest is 0": node u of the first n of the totals d, none of which is above 0
+abbrev pub shifted : List ℤ → ℕ → ℕ → ℤ
+shifted d n u = getD d u (pos 0) -ℤ deepest d n

@@ -1,11 +1,14 @@
 // Rounds of relaxation over a sheet's wires. Assumes nothing.
 ghost use mathlib.Core.Path.{_≡_};
-ghost use Prim.Native.Nat.{ℕ, _+_, _*_, _<_};
+ghost use Prim.Native.Nat.{ℕ, _+_, _*_, _<_, _≤_};
 ghost use lib.ListN.{length, getD};
 ghost use lib.IntN.{pos};
+ghost use mir.Syntax.{w32};
+ghost use mir.Val.{SFits};
 ghost use Rattle.records.specs.Records.{most-nodes};
 ghost use Rattle.sheets.specs.Sheet.{sheet-format};
-ghost use Rattle.rounds.specs.Rounds.{number-at, bytes-net, Wired, SumsFit, Improved, Moderate, Settling};
+ghost use Rattle.folding.specs.Walks.{deepest};
+ghost use Rattle.rounds.specs.Rounds.{number-at, row-of, bytes-net, Wired, SumsFit, Improved, Moderate, Settling, shifted};
 use words::time::Iterations;
 
 pub struct Relaxed {
@@ -101,4 +104,37 @@ pub fn settle(b: &[u8], at: usize, wires: usize, nodes: usize, bounds: [Iteratio
         rounds: k as u8,
         settled: false,
     }
+}
+
+// The least of the first totals, none of which is above 0.
+fn deepest(totals: [Iterations; 48], nodes: usize) -> Iterations
+    requires { ⌜ nodes ≤ most-nodes ⌝ }
+    ensures { λ r. ⌜ r .0 ≡ deepest (row-of nodes totals) nodes ⌝ }
+{
+    let mut least = Iterations::zero();
+    let mut u = 0;
+    while u < nodes {
+        let total = totals[u];
+        least = least.lesser(total);
+        u += 1;
+    }
+    least
+}
+
+// One constant is added to all totals so that the smallest is 0.
+pub fn starts(totals: [Iterations; 48], nodes: usize) -> [Iterations; 48]
+    requires { ⌜ nodes ≤ most-nodes ⌝ }
+    requires { ⌜ ((u : ℕ) → u < nodes → SFits w32 (shifted (row-of nodes totals) nodes u)) ⌝ }
+    ensures { λ r. ⌜ ((u : ℕ) → u < nodes → number-at r u ≡ shifted (row-of nodes totals) nodes u) ⌝ }
+{
+    let least = deepest(totals, nodes);
+    let made = no_totals();
+    let mut starts = made;
+    let mut u = 0;
+    while u < nodes {
+        let total = totals[u];
+        starts[u] = total.minus(least);
+        u += 1;
+    }
+    starts
 }

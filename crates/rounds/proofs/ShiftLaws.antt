@@ -1,0 +1,37 @@
+-- The least total, and the starts above it: one node more, and what they are for the latest row. Assumes nothing.
+use mathlib.Core.Path.{_≡_, refl, sym, ap, _∙_, subst}
+use mathlib.Core.Bool.{Bool, true, cond}
+use mathlib.Core.List.{List}
+use Prim.Native.Nat.{ℕ, suc, _+_, _*_, _-_, _<_, _≤_}
+use native.Mathlib.Decide.{ℕ-discrete}
+use native.Mathlib.Numerals.{add-one}
+use native.Mathlib.Omega.{arith}
+use lib.ListN.{length, getD, set}
+use lib.Seq.{getD-set-same, getD-set-other}
+use lib.IntN.{ℤ, pos, _-ℤ_}
+use lib.Signed.{leZ}
+use mir.Syntax.{w32}
+use mir.Val.{SFits}
+use Rattle.words.specs.declared.time.Iterations.{Iterations}
+use Rattle.words.proofs.Ints.{up, down}
+use Rattle.words.proofs.FitLaws.{fits, dif-size}
+use Rattle.words.proofs.LoopLaws.{getD-tab}
+use Rattle.folding.specs.Walks.{Net, minℤ, round, latest, deepest, start}
+use Rattle.folding.proofs.StartLaws.{start-is, deepest-met}
+use Rattle.rounds.specs.Rounds.{number-at, row-of, shifted}
+
+pub least-more : (n u : ℕ) (l : List Iterations) (a x : Iterations) → u < n → a .0 ≡ deepest (row-of n l) u →
+    x .0 ≡ cond (leZ (a .0) (number-at l u)) (a .0) (number-at l u) → x .0 ≡ deepest (row-of n l) (u + 1)
+unfolding deepest minℤ
+least-more n u l a x h p q = q ∙ rw (add-one u, p, getD-tab n (number-at l) u (pos 0) h) refl
+
+pub filled-more : (f : ℕ → ℤ) (l : List Iterations) (u : ℕ) (x : Iterations) → u < length l → x .0 ≡ f u →
+    ((v : ℕ) → v < u → number-at l v ≡ f v) → (v : ℕ) → v < u + 1 → number-at (set l u x) v ≡ f v
+filled-more f l u x h q r v k = elim (ℕ-discrete v u) [
+  | yes s ↦ rw s (ap (λ (i : Iterations). i .0) (getD-set-same l u x (record { 0 = pos 0 }) h) ∙ q)
+  | no s ↦ ap (λ (i : Iterations). i .0) (getD-set-other l u v x (record { 0 = pos 0 }) s) ∙ r v (omega arith)
+]
+
+pub shift-at : (n u : ℕ) (l : List Iterations) (a : Iterations) → u < n → a .0 ≡ deepest (row-of n l) n →
+    number-at l u -ℤ a .0 ≡ shifted (row-of n l) n u
+shift-at n u l a h q = rw (q, getD-tab n (number-at l) u (pos 0) h) refl
