@@ -34,7 +34,7 @@ number-none z h (suc n) zero = h
 number-none z h (suc n) (suc u) = number-none z h n u
 
 -- of up and down one is 0
-high-up : (z : ℤ) (n : ℕ) → z ≤ℤ pos n → up z ≤ n
+pub high-up : (z : ℤ) (n : ℕ) → z ≤ℤ pos n → up z ≤ n
 unfolding up down
 high-up (pos m) n h = omega (arith, le-up h)
 high-up (negsuc m) n h = omega arith

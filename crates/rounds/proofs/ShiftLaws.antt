@@ -18,7 +18,11 @@ use Rattle.words.proofs.FitLaws.{fits, dif-size}
 use Rattle.words.proofs.LoopLaws.{getD-tab}
 use Rattle.folding.specs.Walks.{Net, minℤ, round, latest, deepest, start}
 use Rattle.folding.proofs.StartLaws.{start-is, deepest-met}
-use Rattle.rounds.specs.Rounds.{number-at, row-of, shifted}
+use Rattle.folding.proofs.RoundLaws.{Closed, round-nonpos}
+use Rattle.folding.proofs.SettleLaws.{round-low}
+use Rattle.records.specs.Records.{most-nodes}
+use Rattle.rounds.specs.Rounds.{number-at, row-of, shifted, Moderate}
+use Rattle.rounds.proofs.RowLaws.{high-up}
 
 pub least-more : (n u : ℕ) (l : List Iterations) (a x : Iterations) → u < n → a .0 ≡ deepest (row-of n l) u →
     x .0 ≡ cond (leZ (a .0) (number-at l u)) (a .0) (number-at l u) → x .0 ≡ deepest (row-of n l) (u + 1)
@@ -35,3 +39,23 @@ filled-more f l u x h q r v k = elim (ℕ-discrete v u) [
 pub shift-at : (n u : ℕ) (l : List Iterations) (a : Iterations) → u < n → a .0 ≡ deepest (row-of n l) n →
     number-at l u -ℤ a .0 ≡ shifted (row-of n l) n u
 shift-at n u l a h q = rw (q, getD-tab n (number-at l) u (pos 0) h) refl
+
+-- ---- the latest row
+
+module _ (g : Net) (l : List Iterations) (is : row-of (g .nodes) l ≡ latest g) where
+  pub shifted-start : (u : ℕ) → u < g .nodes → shifted (row-of (g .nodes) l) (g .nodes) u ≡ pos (start g u)
+  shifted-start u h = ap (λ (d : List ℤ). shifted d (g .nodes) u) is ∙ sym (start-is g u h)
+
+  pub shifted-fits : Closed g → Moderate g → g .nodes ≤ most-nodes → (u : ℕ) → u < g .nodes → SFits w32 (shifted (row-of (g .nodes) l) (g .nodes) u)
+  shifted-fits cl moderate few u h =
+      let n = g .nodes in
+      let k = n - 1 in
+      let low = deepest-met (latest g) n (λ v j. round-nonpos g k v j) (omega arith) in
+      let v = low .0 in
+      let s = dif-size (round g k u) (round g k v) in
+      let a = high-up (round g k u) 0 (round-nonpos g k u h) in
+      let b = high-up (round g k v) 0 (round-nonpos g k v (low .1)) in
+      let c = round-low g cl (moderate .low) k u h in
+      let d = round-low g cl (moderate .low) k v (low .1) in
+      subst (λ (z : List ℤ). SFits w32 (shifted z n u)) (sym is)
+      (rw (low .2) (fits (round g k u -ℤ round g k v) (omega (arith, s .0)) (omega (arith, s .1))))

@@ -13,9 +13,10 @@ use Rattle.words.specs.declared.time.Iterations.{Iterations}
 use Rattle.words.specs.Loops.{tab, some-of}
 use Rattle.records.specs.Records.{most-nodes, most-wires}
 use Rattle.sheets.specs.Sheet.{sheet-format, wire-at, most-delays}
-use Rattle.folding.specs.Walks.{Net, better, chain, foldable, latest, deepest}
+use Rattle.folding.specs.Walks.{Net, better, chain, foldable, latest, deepest, start}
 use Rattle.rounds.specs.declared.Relaxed.{Relaxed}
 use Rattle.rounds.specs.declared.Settled.{Settled}
+use Rattle.rounds.specs.declared.Retimed.{Retimed}
 
 -- the number of element i
 abbrev pub number-at : List Iterations → ℕ → ℤ
@@ -71,3 +72,9 @@ pub record Settling (g : Net) (r : Settled) : Type 0 where
 -- "One constant is added to all values so that the smallest is 0": node u of the first n of the totals d, none of which is above 0
 abbrev pub shifted : List ℤ → ℕ → ℕ → ℤ
 shifted d n u = getD d u (pos 0) -ℤ deepest d n
+
+-- whether the net folds, and where it does the starts and the chain
+pub record Timed (g : Net) (r : Retimed) : Type 0 where
+  pub settled : r .settled ≡ foldable g
+  pub rounds : foldable g ≡ true → r .rounds ≡ chain g
+  pub starts : foldable g ≡ true → (u : ℕ) → u < g .nodes → number-at (r .starts) u ≡ pos (start g u)

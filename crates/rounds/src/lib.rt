@@ -8,7 +8,7 @@ ghost use mir.Val.{SFits};
 ghost use Rattle.records.specs.Records.{most-nodes};
 ghost use Rattle.sheets.specs.Sheet.{sheet-format};
 ghost use Rattle.folding.specs.Walks.{deepest};
-ghost use Rattle.rounds.specs.Rounds.{number-at, row-of, bytes-net, Wired, SumsFit, Improved, Moderate, Settling, shifted};
+ghost use Rattle.rounds.specs.Rounds.{number-at, row-of, bytes-net, Wired, SumsFit, Improved, Moderate, Settling, shifted, Timed};
 use words::time::Iterations;
 
 pub struct Relaxed {
@@ -137,4 +137,34 @@ pub fn starts(totals: [Iterations; 48], nodes: usize) -> [Iterations; 48]
         u += 1;
     }
     starts
+}
+
+// The latest retiming and its chain.
+pub struct Retimed {
+    pub starts: [Iterations; 48],
+    pub rounds: u8,
+    pub settled: bool,
+}
+
+// Rounds, and where they settle the starts.
+pub fn retime(b: &[u8], at: usize, wires: usize, nodes: usize, bounds: [Iterations; 96]) -> Retimed
+    requires { ⌜ Wired (now b) at nodes wires ⌝ }
+    requires { ⌜ Moderate (bytes-net (now b) at nodes wires bounds) ⌝ }
+    ensures { λ r. ⌜ Timed (bytes-net (now (b .entry)) at nodes wires bounds) r ⌝ }
+{
+    let rows = settle(b, at, wires, nodes, bounds);
+    let totals = rows.totals;
+    if !rows.settled {
+        return Retimed {
+            starts: totals,
+            rounds: rows.rounds,
+            settled: false,
+        };
+    }
+    let shifted = starts(totals, nodes);
+    Retimed {
+        starts: shifted,
+        rounds: rows.rounds,
+        settled: true,
+    }
 }
