@@ -76,7 +76,7 @@ module _ (g : Net) where
 
 -- ---- the bytes' net
 
-module _ (b : List ℕ) (at nodes wires : ℕ) (bounds : List Iterations) (wired : Wired b at nodes wires) where
+module _ {b : List ℕ} {at nodes wires : ℕ} (bounds : List Iterations) (wired : Wired b at nodes wires) where
   abbrev g : Net
   g = bytes-net b at nodes wires bounds
 

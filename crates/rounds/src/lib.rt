@@ -1,4 +1,6 @@
-// Rounds of relaxation over a sheet's wires. Assumes nothing.
+// Rounds over a sheet's wires, whose records are read where they stand. A round makes every node's total from the former round's
+// alone, so that after k rounds it is the least over walks of at most k wires, and the rounds counted until nothing changes are the
+// chain. Assumes nothing.
 ghost use mathlib.Core.Path.{_≡_};
 ghost use Prim.Native.Nat.{ℕ, _+_, _*_, _<_, _≤_};
 ghost use lib.ListN.{length, getD};
@@ -11,20 +13,39 @@ ghost use Rattle.folding.specs.Walks.{deepest};
 ghost use Rattle.rounds.specs.Rounds.{number-at, row-of, bytes-net, Wired, SumsFit, Improved, Moderate, Settling, shifted, Timed};
 use words::time::Iterations;
 
-pub struct Relaxed {
-    pub totals: [Iterations; 48],
-    pub changed: bool,
-}
-
-// Where a wire record has its ends.
+// Limits of a sheet, and where a wire's record has its two ends.
 pub struct Layout {}
 
 impl Layout {
-    pub const RECORD: usize = 6;
-    pub const FROM: usize = 2;
-    pub const TO: usize = 3;
     pub const NODES: usize = 48;
+
     pub const WIRES: usize = 96;
+
+    pub const RECORD: usize = 6;
+
+    pub const FROM: usize = 2;
+
+    pub const TO: usize = 3;
+}
+
+// What one round makes of the former totals.
+pub struct Relaxed {
+    pub totals: [Iterations; Layout::NODES],
+    pub changed: bool,
+}
+
+// What the rounds come to, and how many there were.
+pub struct Settled {
+    pub totals: [Iterations; Layout::NODES],
+    pub rounds: u8,
+    pub settled: bool,
+}
+
+// The latest retiming: starts, and the rounds that it took.
+pub struct Retimed {
+    pub starts: [Iterations; Layout::NODES],
+    pub rounds: u8,
+    pub settled: bool,
 }
 
 fn wide(x: u8) -> usize
@@ -33,7 +54,7 @@ fn wide(x: u8) -> usize
     x as usize
 }
 
-// One end of wire e, whose records stand in b from byte `at` on.
+// One end of wire e; the records stand in b from byte `at` on.
 pub fn end_at(b: &[u8], at: usize, e: usize, side: usize) -> usize
     requires { ⌜ at + sheet-format .wire-length * e + side < length (now b) ⌝ }
     ensures { λ r. ⌜ r ≡ getD (now (b .entry)) (at + sheet-format .wire-length * e + side) 0 ⌝ }
@@ -41,7 +62,14 @@ pub fn end_at(b: &[u8], at: usize, e: usize, side: usize) -> usize
     wide(b[at + Layout::RECORD * e + side])
 }
 
-pub fn round(b: &[u8], at: usize, wires: usize, bounds: [Iterations; 96], former: [Iterations; 48]) -> Relaxed
+// One round: for every wire the better total of its first end, from the former totals alone, and whether some bound was not met.
+pub fn round(
+    b: &[u8],
+    at: usize,
+    wires: usize,
+    bounds: [Iterations; Layout::WIRES],
+    former: [Iterations; Layout::NODES],
+) -> Relaxed
     requires { ⌜ Wired (now b) at most-nodes wires ⌝ }
     requires { ⌜ SumsFit (bytes-net (now b) at most-nodes wires bounds) (number-at former) ⌝ }
     ensures { λ r. ⌜ Improved (bytes-net (now (b .entry)) at most-nodes wires bounds) (number-at former) r ⌝ }
@@ -64,21 +92,21 @@ pub fn round(b: &[u8], at: usize, wires: usize, bounds: [Iterations; 96], former
     Relaxed { totals, changed }
 }
 
-// What the rounds come to.
-pub struct Settled {
-    pub totals: [Iterations; 48],
-    pub rounds: u8,
-    pub settled: bool,
-}
-
-fn no_totals() -> [Iterations; 48]
+// The empty walk counts 0.
+fn no_totals() -> [Iterations; Layout::NODES]
     ensures { λ r. ⌜ ((u : ℕ) → number-at r u ≡ pos 0) ⌝ }
 {
     [Iterations::zero(); Layout::NODES]
 }
 
 // Rounds until nothing changes, at most as many as there are nodes.
-pub fn settle(b: &[u8], at: usize, wires: usize, nodes: usize, bounds: [Iterations; 96]) -> Settled
+pub fn settle(
+    b: &[u8],
+    at: usize,
+    wires: usize,
+    nodes: usize,
+    bounds: [Iterations; Layout::WIRES],
+) -> Settled
     requires { ⌜ Wired (now b) at nodes wires ⌝ }
     requires { ⌜ Moderate (bytes-net (now b) at nodes wires bounds) ⌝ }
     ensures { λ r. ⌜ Settling (bytes-net (now (b .entry)) at nodes wires bounds) r ⌝ }
@@ -101,13 +129,13 @@ pub fn settle(b: &[u8], at: usize, wires: usize, nodes: usize, bounds: [Iteratio
     }
     Settled {
         totals,
-        rounds: k as u8,
+        rounds: nodes as u8,
         settled: false,
     }
 }
 
 // The least of the first totals, none of which is above 0.
-fn deepest(totals: [Iterations; 48], nodes: usize) -> Iterations
+fn deepest(totals: [Iterations; Layout::NODES], nodes: usize) -> Iterations
     requires { ⌜ nodes ≤ most-nodes ⌝ }
     ensures { λ r. ⌜ r .0 ≡ deepest (row-of nodes totals) nodes ⌝ }
 {
@@ -122,7 +150,7 @@ fn deepest(totals: [Iterations; 48], nodes: usize) -> Iterations
 }
 
 // One constant is added to all totals so that the smallest is 0.
-pub fn starts(totals: [Iterations; 48], nodes: usize) -> [Iterations; 48]
+pub fn starts(totals: [Iterations; Layout::NODES], nodes: usize) -> [Iterations; Layout::NODES]
     requires { ⌜ nodes ≤ most-nodes ⌝ }
     requires { ⌜ ((u : ℕ) → u < nodes → SFits w32 (shifted (row-of nodes totals) nodes u)) ⌝ }
     ensures { λ r. ⌜ ((u : ℕ) → u < nodes → number-at r u ≡ shifted (row-of nodes totals) nodes u) ⌝ }
@@ -139,15 +167,14 @@ pub fn starts(totals: [Iterations; 48], nodes: usize) -> [Iterations; 48]
     starts
 }
 
-// The latest retiming and its chain.
-pub struct Retimed {
-    pub starts: [Iterations; 48],
-    pub rounds: u8,
-    pub settled: bool,
-}
-
 // Rounds, and where they settle the starts.
-pub fn retime(b: &[u8], at: usize, wires: usize, nodes: usize, bounds: [Iterations; 96]) -> Retimed
+pub fn retime(
+    b: &[u8],
+    at: usize,
+    wires: usize,
+    nodes: usize,
+    bounds: [Iterations; Layout::WIRES],
+) -> Retimed
     requires { ⌜ Wired (now b) at nodes wires ⌝ }
     requires { ⌜ Moderate (bytes-net (now b) at nodes wires bounds) ⌝ }
     ensures { λ r. ⌜ Timed (bytes-net (now (b .entry)) at nodes wires bounds) r ⌝ }

@@ -31,7 +31,7 @@ starts-requires c κs =
     let r = c .before .before .before .settle in (
       f .pre .0 .few-nodes,
       shifted-fits (bytes-net (s .b .now) (s .at) (s .nodes) (s .wires) (s .bounds)) (r .result .totals) (r .ensures .totals (folds c))
-      (closed (s .b .now) (s .at) (s .nodes) (s .wires) (s .bounds) (f .pre .0)) (f .pre .1) (f .pre .0 .few-nodes),
+          (closed (s .bounds) (f .pre .0)) (f .pre .1) (f .pre .0 .few-nodes),
     )
 
 returns-2 : tie.Need-returns-2

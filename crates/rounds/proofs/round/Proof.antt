@@ -11,12 +11,6 @@ use Rattle.rounds.specs.Rounds.{number-at, bytes-net, unmet}
 use Rattle.rounds.proofs.StepLaws.{Reached, reached-more, unmet-in, unmet-more}
 use Rattle.rounds.proofs.round.Statement.{statement}
 use Rattle.rounds.proofs.round.Tie as tie
-use Rattle.rounds.proofs.round.Reads as reads
-use Rattle.rounds.proofs.round.Lts as lts
-use Rattle.rounds.proofs.end_at.Reads as end-at-reads
-use Rattle.words.proofs.time.Iterations.below.Reads as below-reads
-use Rattle.words.proofs.time.Iterations.lesser.Reads as lesser-reads
-use Rattle.words.proofs.time.Iterations.plus.Reads as plus-reads
 
 abbrev Inv-loop : tie.InvT-loop
 Inv-loop b at wires bounds former totals₀ changed₀ e₀ totals changed e =
@@ -104,9 +98,9 @@ loop-again c =
       search needs,
       simp length-set long,
       reached-more g d (l .loop .e) (m .before .end-at .result) (m .end-at2 .result) (c .before .before .plus .result) (m .before .end-at .ensures) (m .end-at2 .ensures) (c .before .before .plus .ensures)
-      (l .loop .totals) (c .before .lesser .result) (rw long (leaves (m .before))) (c .before .lesser .ensures) (l .loop .inv .2),
+          (l .loop .totals) (c .before .lesser .result) (rw long (leaves (m .before))) (c .before .lesser .ensures) (l .loop .inv .2),
       unmet-more g d (l .loop .e) (m .before .end-at .result) (m .end-at2 .result) (c .before .before .plus .result) (m .before .end-at .ensures) (m .end-at2 .ensures) (c .before .before .plus .ensures)
-      (l .loop .changed) (c .below .result) (c .below .ensures) (l .loop .inv .3),
+          (l .loop .changed) (c .below .result) (c .below .ensures) (l .loop .inv .3),
     )
 
 returns : tie.Need-returns Inv-loop μ-loop

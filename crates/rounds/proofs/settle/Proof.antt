@@ -13,10 +13,6 @@ use Rattle.rounds.specs.Rounds.{number-at, bytes-net}
 use Rattle.rounds.proofs.RowLaws.{wired-whole, sums-fit, rounded-more, stays-settled, falls-unsettled, settled-answer, unsettled-answer}
 use Rattle.rounds.proofs.settle.Statement.{statement}
 use Rattle.rounds.proofs.settle.Tie as tie
-use Rattle.rounds.proofs.settle.Reads as reads
-use Rattle.rounds.proofs.settle.Lts as lts
-use Rattle.rounds.proofs.no_totals.Reads as no-totals-reads
-use Rattle.rounds.proofs.round.Reads as round-reads
 
 abbrev Inv-loop : tie.InvT-loop
 Inv-loop b at wires nodes bounds totals₀ k₀ totals k =
@@ -39,8 +35,8 @@ round-requires c κs =
     let l = c .before .loop in
     let f = c .before .before .before .before in
     let s = f .args in (
-      wired-whole (s .b .now) (s .at) (s .nodes) (s .wires) (s .bounds) (f .pre .0),
-      sums-fit (s .b .now) (s .at) (s .nodes) (s .wires) (s .bounds) (f .pre .0) (l .k) (l .totals) (l .inv .1) (l .inv .0) (f .pre .1),
+      wired-whole (s .bounds) (f .pre .0),
+      sums-fit (s .bounds) (f .pre .0) (l .k) (l .totals) (l .inv .1) (l .inv .0) (f .pre .1),
     )
 
 cast-t12 : tie.Need-cast-t12 Inv-loop μ-loop
@@ -52,8 +48,8 @@ returns c =
     let f = l .before .before .before in
     let s = f .args in
     let r = c .before .before .round in
-    settled-answer (s .b .now) (s .at) (s .nodes) (s .wires) (s .bounds) (f .pre .0) (l .loop .k) (l .loop .totals) (l .loop .inv .1) (omega arith) (l .loop .inv .2)
-    (stays-settled (s .b .now) (s .at) (s .nodes) (s .wires) (s .bounds) (f .pre .0) (l .loop .k) (l .loop .totals) (l .loop .inv .1) (r .result) (r .ensures) (not-true _ (c .if1 .taken)))
+    settled-answer (s .bounds) (f .pre .0) (l .loop .k) (l .loop .totals) (l .loop .inv .1) (omega arith) (l .loop .inv .2)
+    (stays-settled (s .bounds) (f .pre .0) (l .loop .k) (l .loop .totals) (l .loop .inv .1) (r .result) (r .ensures) (not-true _ (c .if1 .taken)))
 
 add-k : tie.Need-add-k Inv-loop μ-loop
 add-k c = search needs
@@ -68,9 +64,9 @@ loop-again c =
     let s = f .args in
     let r = c .before .before .before .round in (
       search needs,
-      rw (add-one (l .loop .k)) (rounded-more (s .b .now) (s .at) (s .nodes) (s .wires) (s .bounds) (f .pre .0) (l .loop .k) (l .loop .totals) (l .loop .inv .1) (r .result) (r .ensures)),
+      rw (add-one (l .loop .k)) (rounded-more (s .bounds) (f .pre .0) (l .loop .k) (l .loop .totals) (l .loop .inv .1) (r .result) (r .ensures)),
       below-more _ _ (l .loop .inv .2)
-      (falls-unsettled (s .b .now) (s .at) (s .nodes) (s .wires) (s .bounds) (f .pre .0) (l .loop .k) (l .loop .totals) (l .loop .inv .1) (r .result) (r .ensures) (not-false _ (c .before .if1 .left))),
+          (falls-unsettled (s .bounds) (f .pre .0) (l .loop .k) (l .loop .totals) (l .loop .inv .1) (r .result) (r .ensures) (not-false _ (c .before .if1 .left))),
     )
 
 cast-t13 : tie.Need-cast-t13 Inv-loop μ-loop
@@ -81,7 +77,7 @@ returns-2 c =
     let l = c .before .loop in
     let f = c .before .before .before .before in
     let s = f .args in
-    unsettled-answer (s .b .now) (s .at) (s .nodes) (s .wires) (s .bounds) (f .pre .0) (l .k) (l .totals) (l .inv .2 (s .nodes - 1) (omega (arith, f .pre .0 .some-node)))
+    unsettled-answer (s .bounds) (f .pre .0) (s .nodes) (l .totals) (l .inv .2 (s .nodes - 1) (omega (arith, f .pre .0 .some-node)))
 
 pub settle-spec : {M : Type 1} → statement M
 settle-spec =
