@@ -1,0 +1,3 @@
+-- Laws.
+pub mod RingLaws
+pub mod MarkLaws

@@ -1,0 +1,43 @@
+-- The loop that is shown for an unfoldable net, and the steps that find it: choices kept, followed back, the first node met again, the
+-- lowest wire, the turn. Assumes nothing.
+use mathlib.Core.Path.{_≡_}
+use mathlib.Core.Bool.{Bool}
+use mathlib.Core.List.{List, [], _∷_, _++_}
+use Prim.Native.Nat.{ℕ, zero, suc, _+_, _*_, _-_, _<_, _≤_}
+use lib.ListN.{length, getD, take, drop}
+use lib.IntN.{ℤ, _+ℤ_}
+use lib.Signed.{_≤ℤ_, _<ℤ_}
+use Rattle.records.specs.Records.{most-nodes}
+use Rattle.sheets.specs.Sheet.{sheet-format, wire-at}
+use Rattle.folding.specs.Walks.{Net, Walk, along, Loop, round}
+
+-- ---- choices
+
+-- wire c leaves u and comes to no more than t, from the totals d
+pub record Reaches (g : Net) (d : ℕ → ℤ) (t : ℤ) (u c : ℕ) : Type 0 where
+  pub wire : c < g .wires
+  pub leaves : g .from c ≡ u
+  pub comes : (g .bound c +ℤ d (g .to c)) ≤ℤ t
+
+-- a row of choices: for every node that some wire reaches its total t by, such a wire
+abbrev pub Marked : Net → (ℕ → ℤ) → (ℕ → ℤ) → List ℕ → Type 0
+Marked g d t row = (u e : ℕ) → Reaches g d (t u) u e → Reaches g d (t u) u (getD row u 0)
+
+-- node u's total falls with round k + 1
+abbrev pub Falls : Net → ℕ → ℕ → Type 0
+Falls g k u = round g (suc k) u <ℤ round g k u
+
+-- ---- a walk, by the places of its wires
+
+-- wire q of the walk meets no node that the walk has left with it or before
+abbrev pub New : (ℕ → ℕ) → (ℕ → ℕ) → List ℕ → ℕ → Type 0
+New from to es q = (p : ℕ) → p ≤ q → ¬ (from (getD es p 0) ≡ to (getD es q 0))
+
+-- a walk of as many wires as there are nodes, with a total below that of all shorter walks
+pub record Falling (g : Net) (es : List ℕ) : Type 0 where
+  pub start : ℕ
+  pub end : ℕ
+  pub in-net : start < g .nodes
+  pub walk : Walk g es start end
+  pub long : length es ≡ g .nodes
+  pub falls : along g es <ℤ round g (g .nodes - 1) start
