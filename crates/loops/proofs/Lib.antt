@@ -1,3 +1,4 @@
 -- Laws.
 pub mod RingLaws
 pub mod MarkLaws
+pub mod KeepLaws

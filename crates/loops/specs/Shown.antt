@@ -27,6 +27,19 @@ Marked g d t row = (u e : ℕ) → Reaches g d (t u) u e → Reaches g d (t u) u
 abbrev pub Falls : Net → ℕ → ℕ → Type 0
 Falls g k u = round g (suc k) u <ℤ round g k u
 
+-- r is the first of n nodes whose total t is below d, or n
+pub record FirstBelow (d t : ℕ → ℤ) (n r : ℕ) : Type 0 where
+  pub within : r ≤ n
+  pub before : (v : ℕ) → v < r → d v ≤ℤ t v
+  pub found : r < n → t r <ℤ d r
+
+-- node r's total falls with the last of as many rounds as there are nodes, and for every round k + 1 the choices from place 48 k on have
+-- a wire for each node whose total falls with it
+pub record Kept (g : Net) (choices : List ℕ) (r : ℕ) : Type 0 where
+  pub node : r < g .nodes
+  pub falls : Falls g (g .nodes - 1) r
+  pub chosen : (k u : ℕ) → k < g .nodes → u < g .nodes → Falls g k u → Reaches g (round g k) (round g (suc k) u) u (getD choices (most-nodes * k + u) 0)
+
 -- ---- a walk, by the places of its wires
 
 -- wire q of the walk meets no node that the walk has left with it or before

@@ -1,13 +1,16 @@
 // The loop that is shown for an unfoldable sheet. Assumes nothing.
 ghost use mathlib.Core.Path.{_≡_};
-ghost use mathlib.Core.Bool.{cond};
+ghost use mathlib.Core.Bool.{cond, false};
 ghost use Prim.Native.Nat.{ℕ, _+_, _*_, _<_, _≤_};
 ghost use lib.ListN.{length, getD};
 ghost use Rattle.records.specs.Records.{most-nodes};
-ghost use Rattle.rounds.specs.Rounds.{number-at, bytes-net, Wired, SumsFit};
-ghost use Rattle.loops.specs.Shown.{Marked};
+ghost use Rattle.folding.specs.Walks.{foldable};
+ghost use Rattle.rounds.specs.Rounds.{number-at, bytes-net, Wired, SumsFit, Moderate};
+ghost use Rattle.loops.specs.Shown.{Marked, FirstBelow, Kept};
 use rounds::Layout;
 use rounds::end_at;
+use rounds::no_totals;
+use rounds::round;
 use words::time::Iterations;
 
 // Wire e, or the choice that stands already.
@@ -45,4 +48,56 @@ fn mark(
         row[u] = choice(beaten, old, e);
         e += 1;
     }
+}
+
+// The first node whose total fell.
+fn fallen(
+    former: [Iterations; Layout::NODES],
+    totals: [Iterations; Layout::NODES],
+    nodes: usize,
+) -> usize
+    requires { ⌜ nodes ≤ most-nodes ⌝ }
+    ensures { λ r. ⌜ FirstBelow (number-at former) (number-at totals) nodes r ⌝ }
+{
+    let mut u = 0;
+    while u < nodes {
+        let old = former[u];
+        let total = totals[u];
+        if total.below(old) {
+            return u;
+        }
+        u += 1;
+    }
+    u
+}
+
+// The choices of as many rounds as there are nodes, and a node whose total fell with the last.
+fn keep(
+    b: &[u8],
+    at: usize,
+    wires: usize,
+    nodes: usize,
+    bounds: [Iterations; Layout::WIRES],
+    choices: &mut [u8],
+) -> usize
+    requires { ⌜ Wired (now b) at nodes wires ⌝ }
+    requires { ⌜ Moderate (bytes-net (now b) at nodes wires bounds) ⌝ }
+    requires { ⌜ foldable (bytes-net (now b) at nodes wires bounds) ≡ false ⌝ }
+    requires { ⌜ most-nodes * most-nodes ≤ length (now choices) ⌝ }
+    ensures { λ r. ⌜ Kept (bytes-net (now (b .entry)) at nodes wires bounds) (now (choices .exit)) r ⌝ }
+{
+    let made = no_totals();
+    let mut former = made;
+    let mut totals = made;
+    let mut k = 0;
+    while k < nodes {
+        let next = round(b, at, wires, bounds, totals);
+        let after = next.totals;
+        let row = Layout::NODES * k;
+        mark(b, at, wires, bounds, totals, after, &mut choices[row..]);
+        former = totals;
+        totals = after;
+        k += 1;
+    }
+    fallen(former, totals, nodes)
 }

@@ -48,7 +48,7 @@ pub struct Retimed {
     pub settled: bool,
 }
 
-fn wide(x: u8) -> usize
+pub fn wide(x: u8) -> usize
     ensures { λ r. ⌜ r ≡ x ⌝ }
 {
     x as usize
@@ -93,7 +93,7 @@ pub fn round(
 }
 
 // The empty walk counts 0.
-fn no_totals() -> [Iterations; Layout::NODES]
+pub fn no_totals() -> [Iterations; Layout::NODES]
     ensures { λ r. ⌜ ((u : ℕ) → number-at r u ≡ pos 0) ⌝ }
 {
     [Iterations::zero(); Layout::NODES]
