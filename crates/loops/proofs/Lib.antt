@@ -2,3 +2,4 @@
 pub mod RingLaws
 pub mod MarkLaws
 pub mod KeepLaws
+pub mod BackLaws

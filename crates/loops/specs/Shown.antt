@@ -40,6 +40,27 @@ pub record Kept (g : Net) (choices : List ℕ) (r : ℕ) : Type 0 where
   pub falls : Falls g (g .nodes - 1) r
   pub chosen : (k u : ℕ) → k < g .nodes → u < g .nodes → Falls g k u → Reaches g (round g k) (round g (suc k) u) u (getD choices (most-nodes * k + u) 0)
 
+-- ---- followed back
+
+-- the ends of wire e, whose record is read where it stands
+abbrev pub from-at : List ℕ → ℕ → ℕ → ℕ
+from-at b at e = wire-at b (at + sheet-format .wire-length * e) .from
+
+abbrev pub to-at : List ℕ → ℕ → ℕ → ℕ
+to-at b at e = wire-at b (at + sheet-format .wire-length * e) .to
+
+-- the chosen wires of rounds k, .., 1, from node u on
+unfoldable pub back : List ℕ → ℕ → List ℕ → ℕ → ℕ → List ℕ
+back b at choices zero u = []
+back b at choices (suc k) u = let c = getD choices (most-nodes * k + u) 0 in c ∷ back b at choices k (to-at b at c)
+
+-- each of them is read inside b, at a node's place
+abbrev pub Backed : List ℕ → ℕ → List ℕ → ℕ → ℕ → Type 0
+Backed b at choices zero u = Unit {0}
+Backed b at choices (suc k) u =
+    let c = getD choices (most-nodes * k + u) 0 in
+    (u < most-nodes) × (at + sheet-format .wire-length * suc c ≤ length b) × Backed b at choices k (to-at b at c)
+
 -- ---- a walk, by the places of its wires
 
 -- wire q of the walk meets no node that the walk has left with it or before

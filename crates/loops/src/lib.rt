@@ -2,15 +2,16 @@
 ghost use mathlib.Core.Path.{_≡_};
 ghost use mathlib.Core.Bool.{cond, false};
 ghost use Prim.Native.Nat.{ℕ, _+_, _*_, _<_, _≤_};
-ghost use lib.ListN.{length, getD};
+ghost use lib.ListN.{length, take};
 ghost use Rattle.records.specs.Records.{most-nodes};
 ghost use Rattle.folding.specs.Walks.{foldable};
 ghost use Rattle.rounds.specs.Rounds.{number-at, bytes-net, Wired, SumsFit, Moderate};
-ghost use Rattle.loops.specs.Shown.{Marked, FirstBelow, Kept};
+ghost use Rattle.loops.specs.Shown.{Marked, FirstBelow, Kept, back, Backed};
 use rounds::Layout;
 use rounds::end_at;
 use rounds::no_totals;
 use rounds::round;
+use rounds::wide;
 use words::time::Iterations;
 
 // Wire e, or the choice that stands already.
@@ -100,4 +101,22 @@ fn keep(
         k += 1;
     }
     fallen(former, totals, nodes)
+}
+
+// The choices followed back from node `first`, one for each round.
+fn follow(b: &[u8], at: usize, nodes: usize, choices: &[u8], first: usize, walk: &mut [u8])
+    requires { ⌜ Backed (now b) at (now choices) nodes first ⌝ }
+    requires { ⌜ most-nodes * nodes ≤ length (now choices) ⌝ }
+    requires { ⌜ nodes ≤ length (now walk) ⌝ }
+    ensures { λ _. ⌜ take nodes (now (walk .exit)) ≡ back (now (b .entry)) at (now (choices .entry)) nodes first ⌝ }
+{
+    let mut u = first;
+    let mut i = 0;
+    while i < nodes {
+        let row = Layout::NODES * (nodes - 1 - i);
+        let wire = choices[row + u];
+        walk[i] = wire;
+        u = end_at(b, at, wide(wire), Layout::TO);
+        i += 1;
+    }
 }
