@@ -3,3 +3,4 @@ pub mod RingLaws
 pub mod MarkLaws
 pub mod KeepLaws
 pub mod BackLaws
+pub mod FallLaws

@@ -6,7 +6,7 @@ ghost use lib.ListN.{length, take};
 ghost use Rattle.records.specs.Records.{most-nodes};
 ghost use Rattle.folding.specs.Walks.{foldable};
 ghost use Rattle.rounds.specs.Rounds.{number-at, bytes-net, Wired, SumsFit, Moderate};
-ghost use Rattle.loops.specs.Shown.{Marked, FirstBelow, Kept, back, Backed};
+ghost use Rattle.loops.specs.Shown.{Marked, FirstBelow, Kept, back, Backed, Falling};
 use rounds::Layout;
 use rounds::end_at;
 use rounds::no_totals;
@@ -119,4 +119,30 @@ fn follow(b: &[u8], at: usize, nodes: usize, choices: &[u8], first: usize, walk:
         u = end_at(b, at, wide(wire), Layout::TO);
         i += 1;
     }
+}
+
+// Room for a choice of every node and round.
+fn no_choices() -> [u8; Layout::NODES * Layout::NODES] {
+    [0u8; Layout::NODES * Layout::NODES]
+}
+
+// A walk of as many wires as there are nodes, with a total below that of all shorter walks.
+fn fall(
+    b: &[u8],
+    at: usize,
+    wires: usize,
+    nodes: usize,
+    bounds: [Iterations; Layout::WIRES],
+    walk: &mut [u8],
+)
+    requires { ⌜ Wired (now b) at nodes wires ⌝ }
+    requires { ⌜ Moderate (bytes-net (now b) at nodes wires bounds) ⌝ }
+    requires { ⌜ foldable (bytes-net (now b) at nodes wires bounds) ≡ false ⌝ }
+    requires { ⌜ most-nodes ≤ length (now walk) ⌝ }
+    ensures { λ _. ⌜ Falling (bytes-net (now (b .entry)) at nodes wires bounds) (take nodes (now (walk .exit))) ⌝ }
+{
+    let made = no_choices();
+    let mut choices = made;
+    let first = keep(b, at, wires, nodes, bounds, &mut choices);
+    follow(b, at, nodes, &choices, first, walk);
 }
