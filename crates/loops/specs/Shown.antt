@@ -10,6 +10,7 @@ use lib.Signed.{_≤ℤ_, _<ℤ_}
 use Rattle.records.specs.Records.{most-nodes}
 use Rattle.sheets.specs.Sheet.{sheet-format, wire-at}
 use Rattle.folding.specs.Walks.{Net, Walk, along, Loop, round}
+use Rattle.loops.specs.declared.Span.{Span}
 
 -- ---- choices
 
@@ -63,10 +64,6 @@ Backed b at choices (suc k) u =
 
 -- ---- a walk, by the places of its wires
 
--- wire q of the walk meets no node that the walk has left with it or before
-abbrev pub New : (ℕ → ℕ) → (ℕ → ℕ) → List ℕ → ℕ → Type 0
-New from to es q = (p : ℕ) → p ≤ q → ¬ (from (getD es p 0) ≡ to (getD es q 0))
-
 -- a walk of as many wires as there are nodes, with a total below that of all shorter walks
 pub record Falling (g : Net) (es : List ℕ) : Type 0 where
   pub start : ℕ
@@ -75,3 +72,23 @@ pub record Falling (g : Net) (es : List ℕ) : Type 0 where
   pub walk : Walk g es start end
   pub long : length es ≡ g .nodes
   pub falls : along g es <ℤ round g (g .nodes - 1) start
+
+-- the records of its wires stand in b
+abbrev pub Held : List ℕ → ℕ → List ℕ → Type 0
+Held b at es = (p : ℕ) → p < length es → at + sheet-format .wire-length * suc (getD es p 0) ≤ length b
+
+-- wire q of the walk meets no node that the walk has left with it or before
+abbrev pub New : (ℕ → ℕ) → (ℕ → ℕ) → List ℕ → ℕ → Type 0
+New from to es q = (p : ℕ) → p ≤ q → ¬ (from (getD es p 0) ≡ to (getD es q 0))
+
+-- r is the first place, not after q, where the walk leaves the node that wire q meets, or q + 1
+pub record FirstLeft (from to : ℕ → ℕ) (es : List ℕ) (q r : ℕ) : Type 0 where
+  pub before : (p : ℕ) → p < r → ¬ (from (getD es p 0) ≡ to (getD es q 0))
+  pub found : r ≤ q → from (getD es r 0) ≡ to (getD es q 0)
+
+-- the first wire that meets a node again stands at place `last`, and the walk left that node at place `first`
+pub record FirstMet (from to : ℕ → ℕ) (es : List ℕ) (r : Span) : Type 0 where
+  pub before : (q : ℕ) → q < r .last → New from to es q
+  pub within : r .last ≤ length es
+  pub order : r .last < length es → r .first ≤ r .last
+  pub found : r .last < length es → from (getD es (r .first) 0) ≡ to (getD es (r .last) 0)

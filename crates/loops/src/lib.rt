@@ -2,11 +2,12 @@
 ghost use mathlib.Core.Path.{_≡_};
 ghost use mathlib.Core.Bool.{cond, false};
 ghost use Prim.Native.Nat.{ℕ, _+_, _*_, _<_, _≤_};
-ghost use lib.ListN.{length, take};
+ghost use lib.ListN.{length, getD, take};
 ghost use Rattle.records.specs.Records.{most-nodes};
+ghost use Rattle.sheets.specs.Sheet.{sheet-format};
 ghost use Rattle.folding.specs.Walks.{foldable};
 ghost use Rattle.rounds.specs.Rounds.{number-at, bytes-net, Wired, SumsFit, Moderate};
-ghost use Rattle.loops.specs.Shown.{Marked, FirstBelow, Kept, back, Backed, Falling};
+ghost use Rattle.loops.specs.Shown.{Marked, FirstBelow, Kept, back, Backed, Falling, Held, from-at, to-at, FirstLeft, FirstMet};
 use rounds::Layout;
 use rounds::end_at;
 use rounds::no_totals;
@@ -145,4 +146,52 @@ fn fall(
     let mut choices = made;
     let first = keep(b, at, wires, nodes, bounds, &mut choices);
     follow(b, at, nodes, &choices, first, walk);
+}
+
+// One end of the wire at place i of a walk.
+fn end_of(b: &[u8], at: usize, walk: &[u8], i: usize, side: usize) -> usize
+    requires { ⌜ i < length (now walk) ⌝ }
+    requires { ⌜ at + sheet-format .wire-length * getD (now walk) i 0 + side < length (now b) ⌝ }
+    ensures { λ r. ⌜ r ≡ getD (now (b .entry)) (at + sheet-format .wire-length * getD (now (walk .entry)) i 0 + side) 0 ⌝ }
+{
+    end_at(b, at, wide(walk[i]), side)
+}
+
+// Where the walk first left the node that its wire q meets.
+fn opens(b: &[u8], at: usize, walk: &[u8], q: usize) -> usize
+    requires { ⌜ q < length (now walk) ⌝ }
+    requires { ⌜ Held (now b) at (now walk) ⌝ }
+    ensures { λ r. ⌜ FirstLeft (from-at (now (b .entry)) at) (to-at (now (b .entry)) at) (now (walk .entry)) q r ⌝ }
+{
+    let node = end_of(b, at, walk, q, Layout::TO);
+    let mut p = 0;
+    while p <= q {
+        if end_of(b, at, walk, p, Layout::FROM) == node {
+            return p;
+        }
+        p += 1;
+    }
+    p
+}
+
+// A part of a walk, by its first and its last place.
+pub struct Span {
+    pub first: usize,
+    pub last: usize,
+}
+
+// The first part of the walk that closes.
+fn closes(b: &[u8], at: usize, walk: &[u8]) -> Span
+    requires { ⌜ Held (now b) at (now walk) ⌝ }
+    ensures { λ r. ⌜ FirstMet (from-at (now (b .entry)) at) (to-at (now (b .entry)) at) (now (walk .entry)) r ⌝ }
+{
+    let mut q = 0;
+    while q < walk.len() {
+        let p = opens(b, at, walk, q);
+        if p <= q {
+            return Span { first: p, last: q };
+        }
+        q += 1;
+    }
+    Span { first: q, last: q }
 }
