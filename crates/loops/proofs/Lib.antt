@@ -4,3 +4,5 @@ pub mod MarkLaws
 pub mod KeepLaws
 pub mod BackLaws
 pub mod FallLaws
+pub mod TurnLaws
+pub mod ShownLaws

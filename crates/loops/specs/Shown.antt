@@ -11,6 +11,7 @@ use Rattle.records.specs.Records.{most-nodes}
 use Rattle.sheets.specs.Sheet.{sheet-format, wire-at}
 use Rattle.folding.specs.Walks.{Net, Walk, along, Loop, round}
 use Rattle.loops.specs.declared.Span.{Span}
+use Rattle.loops.specs.declared.Looped.{Looped}
 
 -- ---- choices
 
@@ -92,3 +93,25 @@ pub record FirstMet (from to : ℕ → ℕ) (es : List ℕ) (r : Span) : Type 0 
   pub within : r .last ≤ length es
   pub order : r .last < length es → r .first ≤ r .last
   pub found : r .last < length es → from (getD es (r .first) 0) ≡ to (getD es (r .last) 0)
+
+-- ---- shown
+
+-- the wire at place r is no higher than those at a and b
+pub record Lower (es : List ℕ) (a b r : ℕ) : Type 0 where
+  pub within : r < length es
+  pub first : getD es r 0 ≤ getD es a 0
+  pub second : getD es r 0 ≤ getD es b 0
+
+-- the wire at place r is the lowest
+pub record Lowest (es : List ℕ) (r : ℕ) : Type 0 where
+  pub within : r < length es
+  pub least : (p : ℕ) → p < length es → getD es r 0 ≤ getD es p 0
+
+-- "`PW` and a wire number .. for each wire of one closed loop, in walking order from its lowest wire number, each node met once, bounds
+-- totalling below 0. Which loop is free."
+pub record Shown (g : Net) (r : Looped) : Type 0 where
+  pub first : ℕ
+  pub rest : List ℕ
+  pub wires : take (r .count) (r .wires) ≡ first ∷ rest
+  pub loop : Loop g first rest
+  pub few : r .count ≤ g .nodes

@@ -1,13 +1,14 @@
 // The loop that is shown for an unfoldable sheet. Assumes nothing.
 ghost use mathlib.Core.Path.{_≡_};
+ghost use mathlib.Core.List.{_++_};
 ghost use mathlib.Core.Bool.{cond, false};
 ghost use Prim.Native.Nat.{ℕ, _+_, _*_, _<_, _≤_};
-ghost use lib.ListN.{length, getD, take};
+ghost use lib.ListN.{length, getD, take, drop};
 ghost use Rattle.records.specs.Records.{most-nodes};
 ghost use Rattle.sheets.specs.Sheet.{sheet-format};
 ghost use Rattle.folding.specs.Walks.{foldable};
 ghost use Rattle.rounds.specs.Rounds.{number-at, bytes-net, Wired, SumsFit, Moderate};
-ghost use Rattle.loops.specs.Shown.{Marked, FirstBelow, Kept, back, Backed, Falling, Held, from-at, to-at, FirstLeft, FirstMet};
+ghost use Rattle.loops.specs.Shown.{Marked, FirstBelow, Kept, back, Backed, Falling, Held, from-at, to-at, FirstLeft, FirstMet, Lower, Lowest, Shown};
 use rounds::Layout;
 use rounds::end_at;
 use rounds::no_totals;
@@ -194,4 +195,81 @@ fn closes(b: &[u8], at: usize, walk: &[u8]) -> Span
         q += 1;
     }
     Span { first: q, last: q }
+}
+
+// The place of the lower of two wires.
+fn lower(ring: &[u8], low: usize, i: usize) -> usize
+    requires { ⌜ low < length (now ring) ⌝ }
+    requires { ⌜ i < length (now ring) ⌝ }
+    ensures { λ r. ⌜ Lower (now (ring .entry)) low i r ⌝ }
+{
+    if ring[i] < ring[low] { i } else { low }
+}
+
+// The place of the lowest wire.
+fn lowest(ring: &[u8]) -> usize
+    requires { ⌜ 0 < length (now ring) ⌝ }
+    ensures { λ r. ⌜ Lowest (now (ring .entry)) r ⌝ }
+{
+    let mut low = 0;
+    let mut i = 0;
+    while i < ring.len() {
+        low = lower(ring, low, i);
+        i += 1;
+    }
+    low
+}
+
+// The ring from place `low` on, and then what stands before it.
+fn turn(ring: &[u8], low: usize, out: &mut [u8])
+    requires { ⌜ low < length (now ring) ⌝ }
+    requires { ⌜ length (now ring) ≤ most-nodes ⌝ }
+    requires { ⌜ most-nodes ≤ length (now out) ⌝ }
+    ensures { λ _. ⌜ take (length (now (ring .entry))) (now (out .exit)) ≡ drop low (now (ring .entry)) ++ take low (now (ring .entry)) ⌝ }
+{
+    let mut q = 0;
+    while q < ring.len() {
+        out[q] = ring[(low + q) % ring.len()];
+        q += 1;
+    }
+}
+
+// The wires of a loop, in walking order from the lowest.
+pub struct Looped {
+    pub wires: [u8; Layout::NODES],
+    pub count: usize,
+}
+
+// Room for a wire of every node.
+fn no_wires() -> [u8; Layout::NODES] {
+    [0u8; Layout::NODES]
+}
+
+// A loop of an unfoldable sheet: the part of a falling walk that closes, turned to its lowest wire.
+pub fn find_loop(
+    b: &[u8],
+    at: usize,
+    wires: usize,
+    nodes: usize,
+    bounds: [Iterations; Layout::WIRES],
+) -> Looped
+    requires { ⌜ Wired (now b) at nodes wires ⌝ }
+    requires { ⌜ Moderate (bytes-net (now b) at nodes wires bounds) ⌝ }
+    requires { ⌜ foldable (bytes-net (now b) at nodes wires bounds) ≡ false ⌝ }
+    ensures { λ r. ⌜ Shown (bytes-net (now (b .entry)) at nodes wires bounds) r ⌝ }
+{
+    let made = no_wires();
+    let mut walk = made;
+    fall(b, at, wires, nodes, bounds, &mut walk);
+    let whole = &walk[..nodes];
+    let span = closes(b, at, whole);
+    let first = span.first;
+    let end = span.last + 1;
+    let ring = &whole[first..end];
+    let mut shown = made;
+    turn(ring, lowest(ring), &mut shown);
+    Looped {
+        wires: shown,
+        count: end - first,
+    }
 }
