@@ -1,8 +1,4 @@
 -- Laws.
 pub mod RingLaws
-pub mod MarkLaws
-pub mod KeepLaws
-pub mod BackLaws
-pub mod FallLaws
 pub mod TurnLaws
 pub mod ShownLaws

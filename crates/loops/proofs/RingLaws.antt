@@ -10,7 +10,8 @@ use lib.IntN.{ℤ, pos, _+ℤ_}
 use lib.Signed.{_<ℤ_}
 use Rattle.words.proofs.Ints.{ints, sumℤ, up-pos, down-pos}
 use Rattle.folding.specs.Walks.{Net, Walk, along, Absent, Once, AtLeast, Loop, round}
-use Rattle.loops.specs.Shown.{New, Falling}
+use Rattle.falls.specs.Choices.{Falling}
+use Rattle.loops.specs.Shown.{New}
 use Rattle.folding.proofs.RoundLaws.{Closed, round-below, walk-end}
 use Rattle.folding.proofs.OnceLaws.{few-but, once-turn}
 use Rattle.folding.proofs.LoopFound.{atleast-append, along-append, walk-append, walk-split, walk-below}

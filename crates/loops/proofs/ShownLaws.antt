@@ -10,7 +10,8 @@ use lib.Seq.{length-take-le, drop-cons, getD-take, getD-drop, split-at}
 use Rattle.folding.specs.Walks.{Net, AtLeast, Loop}
 use Rattle.folding.proofs.RoundLaws.{Closed}
 use Rattle.loops.specs.declared.Span.{Span}
-use Rattle.loops.specs.Shown.{Falling, FirstMet, Lowest}
+use Rattle.falls.specs.Choices.{Falling}
+use Rattle.loops.specs.Shown.{FirstMet, Lowest}
 use Rattle.loops.proofs.RingLaws.{atleast-all, Ring, not-all-new, ring-of, turned-loop}
 
 -- a ring turned to its lowest wire

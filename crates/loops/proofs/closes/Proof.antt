@@ -5,7 +5,8 @@ use native.Mathlib.Omega.{arith}
 use borrow.Author.Needs.{needs}
 use borrow.Author.Count.{below-more}
 use lib.ListN.{length, getD}
-use Rattle.loops.specs.Shown.{from-at, to-at, New}
+use Rattle.falls.specs.Choices.{from-at, to-at}
+use Rattle.loops.specs.Shown.{New}
 use Rattle.loops.proofs.closes.Statement.{statement}
 use Rattle.loops.proofs.closes.Tie as tie
 

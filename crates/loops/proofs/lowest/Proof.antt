@@ -27,13 +27,13 @@ loop-less : tie.Need-loop-less Inv-loop μ-loop
 loop-less c = search needs
 
 loop-again : tie.Need-loop-again Inv-loop μ-loop
-loop-again c = 
+loop-again c =
     let l = c .before .before .loop in
     let r = c .lower .ensures in
     (omega arith, r .within, below-more _ _ (λ p h. le-trans (r .first) (l .inv .2 p h)) (r .second))
 
 returns : tie.Need-returns Inv-loop μ-loop
-returns c = 
+returns c =
     let l = c .before .loop in
     record { within = l .inv .1; least = λ p h. l .inv .2 p (omega arith) }
 

@@ -5,7 +5,7 @@ use native.Mathlib.Omega.{arith}
 use borrow.Author.Needs.{needs}
 use borrow.Author.Count.{below-more}
 use lib.ListN.{length, getD}
-use Rattle.loops.specs.Shown.{from-at, to-at}
+use Rattle.falls.specs.Choices.{from-at, to-at}
 use Rattle.loops.proofs.opens.Statement.{statement}
 use Rattle.loops.proofs.opens.Tie as tie
 

@@ -14,7 +14,7 @@ use Rattle.folding.specs.Walks.{Net, Walk, along, round}
 use Rattle.folding.proofs.RoundLaws.{Closed, round-wire, round-zero}
 use Rattle.rounds.specs.Rounds.{bytes-net, Wired}
 use Rattle.rounds.proofs.RowLaws.{closed}
-use Rattle.loops.specs.Shown.{Reaches, Falls, Kept, to-at, back, Backed, Falling}
+use Rattle.falls.specs.Choices.{Reaches, Falls, Kept, to-at, back, Backed, Falling}
 
 -- where a total falls, so did that of the node that it was reached from
 falls-on : (g : Net) → Closed g → (k u c : ℕ) → Reaches g (round g (suc k)) (round g (suc (suc k)) u) u c → Falls g (suc k) u → Falls g k (g .to c)

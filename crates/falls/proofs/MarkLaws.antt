@@ -14,7 +14,7 @@ use lib.Signed.{ltZ, _≤ℤ_}
 use Rattle.words.proofs.Ints.{ints, ltZ-true, ltZ-false}
 use Rattle.words.proofs.LoopLaws.{passed?}
 use Rattle.folding.specs.Walks.{Net}
-use Rattle.loops.specs.Shown.{Reaches}
+use Rattle.falls.specs.Choices.{Reaches}
 
 module _ (g : Net) (d t : ℕ → ℤ) where
   -- the choices among the first m wires

@@ -1,4 +1,4 @@
--- `loops::mark` meets its contract: after e wires the row has a choice for every node that one of them reaches. Assumes nothing.
+-- `falls::mark` meets its contract: after e wires the row has a choice for every node that one of them reaches. Assumes nothing.
 use mathlib.Core.Path.{_≡_, refl, sym, ap, _∙_}
 use Prim.Native.Nat.{ℕ, _+_, _-_, _<_, _≤_}
 use native.Mathlib.Omega.{arith}
@@ -8,12 +8,12 @@ use lib.IntN.{ℤ, _+ℤ_}
 use lib.Signed.{ltZ}
 use Rattle.records.specs.Records.{most-nodes}
 use Rattle.rounds.specs.Rounds.{number-at, bytes-net}
-use Rattle.loops.proofs.MarkLaws.{MarkedIn, marked-more}
-use Rattle.loops.proofs.mark.Statement.{statement}
-use Rattle.loops.proofs.mark.Tie as tie
+use Rattle.falls.proofs.MarkLaws.{MarkedIn, marked-more}
+use Rattle.falls.proofs.mark.Statement.{statement}
+use Rattle.falls.proofs.mark.Tie as tie
 
 abbrev Inv-loop : tie.InvT-loop
-Inv-loop b at wires row₀ bounds former next e₀ row e = 
+Inv-loop b at wires row₀ bounds former next e₀ row e =
     (e ≤ wires) × (length row ≡ length row₀) × MarkedIn (bytes-net b at most-nodes wires bounds) (number-at former) (number-at next) e row
 
 abbrev μ-loop : tie.MeasureT-loop
@@ -57,7 +57,7 @@ array-copy-out-total : tie.Need-array-copy-out-total Inv-loop μ-loop
 array-copy-out-total c = omega (arith, leaves (c .before .before .before))
 
 plus-requires : tie.Need-plus-requires Inv-loop μ-loop
-plus-requires c κs = 
+plus-requires c κs =
     let l = c .before .before .before .before .before .before in
     rw (c .before .before .before .end-at2 .ensures) (l .before .before .before .pre .1 .0 (l .loop .e) (c .before .before .before .before .before .loop-test .taken))
 
@@ -80,7 +80,7 @@ loop-less : tie.Need-loop-less Inv-loop μ-loop
 loop-less c = search needs
 
 loop-again : tie.Need-loop-again Inv-loop μ-loop
-loop-again c = 
+loop-again c =
     let m = c .before .before .before .before .before .before .before in
     let l = m .before .before .before in
     let s = l .before .before .before .args in
@@ -89,14 +89,14 @@ loop-again c =
       omega arith,
       simp length-set long,
       marked-more g (number-at (s .t5)) (number-at (s .t6)) (l .loop .row) (l .loop .e) (m .before .end-at .result) (c .choice .result) (c .before .before .below .result)
-      (m .before .before .loop-test .taken) (omega (arith, leaves (m .before))) (m .before .end-at .ensures) (rw (c .before .before .before .plus .ensures, m .end-at2 .ensures) at (c .before .before .below .ensures)) (c .choice .ensures) (l .loop .inv .2),
+          (m .before .before .loop-test .taken) (omega (arith, leaves (m .before))) (m .before .end-at .ensures) (rw (c .before .before .before .plus .ensures, m .end-at2 .ensures) at (c .before .before .below .ensures)) (c .choice .ensures) (l .loop .inv .2),
     )
 
 same-length : tie.Need-same-length Inv-loop μ-loop
 same-length c = search needs
 
 returns : tie.Need-returns Inv-loop μ-loop
-returns c = 
+returns c =
     let l = c .before .loop in
     let e : l .e ≡ c .before .before .before .before .args .wires = omega arith in
     λ u i r. l .inv .2 u i (rw e (r .wire)) r

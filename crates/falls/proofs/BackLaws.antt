@@ -8,7 +8,7 @@ use lib.ListN.{length, getD, take, set}
 use lib.Seq.{take-suc-set}
 use Rattle.records.specs.Records.{most-nodes}
 use Rattle.sheets.specs.Sheet.{sheet-format}
-use Rattle.loops.specs.Shown.{to-at, back, Backed}
+use Rattle.falls.specs.Choices.{to-at, back, Backed}
 
 module _ (b : List ℕ) (at : ℕ) (choices : List ℕ) (n : ℕ) where
   -- what is read for wire i

@@ -1,4 +1,4 @@
--- `loops::follow` meets its contract: what is walked and what is left to follow back are the whole. Assumes nothing.
+-- `falls::follow` meets its contract: what is walked and what is left to follow back are the whole. Assumes nothing.
 use mathlib.Core.Path.{_≡_, refl, sym, ap, _∙_}
 use mathlib.Core.List.{_++_}
 use Prim.Native.Nat.{ℕ, suc, _+_, _*_, _-_, _<_, _≤_}
@@ -7,13 +7,13 @@ use native.Mathlib.Omega.{arith}
 use borrow.Author.Needs.{needs}
 use lib.ListN.{length, take, length-set}
 use Rattle.records.specs.Records.{most-nodes}
-use Rattle.loops.specs.Shown.{back, Backed}
-use Rattle.loops.proofs.BackLaws.{Next, next-of, back-more, back-done}
-use Rattle.loops.proofs.follow.Statement.{statement}
-use Rattle.loops.proofs.follow.Tie as tie
+use Rattle.falls.specs.Choices.{back, Backed}
+use Rattle.falls.proofs.BackLaws.{Next, next-of, back-more, back-done}
+use Rattle.falls.proofs.follow.Statement.{statement}
+use Rattle.falls.proofs.follow.Tie as tie
 
 abbrev Inv-loop : tie.InvT-loop
-Inv-loop b at nodes choices first walk₀ u₀ i₀ walk u i = 
+Inv-loop b at nodes choices first walk₀ u₀ i₀ walk u i =
     (i ≤ nodes) × (length walk ≡ length walk₀) × Backed b at choices (nodes - i) u
     × (take i walk ++ back b at choices (nodes - i) u ≡ back b at choices nodes first)
 

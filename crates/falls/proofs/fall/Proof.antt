@@ -1,13 +1,13 @@
--- `loops::fall` meets its contract: the kept choices, followed back. Assumes nothing.
+-- `falls::fall` meets its contract: the kept choices, followed back. Assumes nothing.
 use mathlib.Core.Path.{_≡_}
 use Prim.Native.Nat.{ℕ, _*_, _≤_}
 use native.Mathlib.Omega.{arith}
 use borrow.Author.Needs.{needs}
 use lib.ListN.{length}
 use Rattle.records.specs.Records.{most-nodes}
-use Rattle.loops.proofs.FallLaws.{kept-backed, kept-falling}
-use Rattle.loops.proofs.fall.Statement.{statement}
-use Rattle.loops.proofs.fall.Tie as tie
+use Rattle.falls.proofs.FallLaws.{kept-backed, kept-falling}
+use Rattle.falls.proofs.fall.Statement.{statement}
+use Rattle.falls.proofs.fall.Tie as tie
 
 no-choices-requires : tie.Need-no-choices-requires
 no-choices-requires c κs = search needs

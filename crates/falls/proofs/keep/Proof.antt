@@ -1,4 +1,4 @@
--- `loops::keep` meets its contract: before turn k the totals are those of round k, and the choices of the rounds before it are kept. Assumes
+-- `falls::keep` meets its contract: before turn k the totals are those of round k, and the choices of the rounds before it are kept. Assumes
 -- nothing.
 use mathlib.Core.Path.{_≡_, refl, sym, ap, _∙_}
 use Prim.Native.Nat.{ℕ, suc, _+_, _*_, _-_, _<_, _≤_}
@@ -12,12 +12,12 @@ use Rattle.folding.specs.Walks.{round}
 use Rattle.folding.proofs.RoundLaws.{round-zero}
 use Rattle.rounds.specs.Rounds.{number-at, bytes-net}
 use Rattle.rounds.proofs.RowLaws.{wired-whole, sums-fit, rounded-more}
-use Rattle.loops.proofs.KeepLaws.{part-long, Chosen, chosen-more, kept-all}
-use Rattle.loops.proofs.keep.Statement.{statement}
-use Rattle.loops.proofs.keep.Tie as tie
+use Rattle.falls.proofs.KeepLaws.{part-long, Chosen, chosen-more, kept-all}
+use Rattle.falls.proofs.keep.Statement.{statement}
+use Rattle.falls.proofs.keep.Tie as tie
 
 abbrev Inv-loop : tie.InvT-loop
-Inv-loop b at wires nodes bounds choices₀ former₀ totals₀ k₀ choices former totals k = 
+Inv-loop b at wires nodes bounds choices₀ former₀ totals₀ k₀ choices former totals k =
     let g = bytes-net b at nodes wires bounds in
     (k ≤ nodes) × (length choices ≡ length choices₀) × ((u : ℕ) → u < nodes → number-at totals u ≡ round g k u)
     × ((j : ℕ) → suc j ≡ k → (u : ℕ) → u < nodes → number-at former u ≡ round g j u) × Chosen g k choices
@@ -94,7 +94,7 @@ loop-again c =
       rw (add-one (l .loop .k)) after,
       (λ j h u hu. l .loop .inv .2 u hu ∙ ap (λ (z : ℕ). round (bytes-net (s .b .now) (s .at) (s .nodes) (s .wires) (s .bounds)) z u) (let e : l .loop .k ≡ j = omega arith in e)),
       rw (add-one (l .loop .k)) (chosen-more (s .bounds) (f .pre .0) (l .loop .k) (l .loop .totals) (r .result .totals) (l .loop .inv .2) after (l .loop .choices) (c .before .before .mark .last .1 .1 .1 .1 .1 .1 .0) _
-      (omega (arith, room .0)) (omega (arith, room .0, room .1, c .before .before .mark .kept .1 .1 .1 .1 .1 .1 .0)) (c .before .before .mark .ensures) (l .loop .inv .4)),
+          (omega (arith, room .0)) (omega (arith, room .0, room .1, c .before .before .mark .kept .1 .1 .1 .1 .1 .1 .0)) (c .before .before .mark .ensures) (l .loop .inv .4)),
     )
 
 fallen-requires : tie.Need-fallen-requires Inv-loop μ-loop

@@ -18,7 +18,7 @@ use Rattle.folding.specs.Walks.{Net, Walk, along, round, foldable}
 use Rattle.folding.proofs.RoundLaws.{Closed, round-met, round-below, round-nonpos, falls-at}
 use Rattle.rounds.specs.Rounds.{number-at, bytes-net, Wired}
 use Rattle.rounds.proofs.RowLaws.{closed, Rounded}
-use Rattle.loops.specs.Shown.{Reaches, Marked, Falls, FirstBelow, Kept}
+use Rattle.falls.specs.Choices.{Reaches, Marked, Falls, FirstBelow, Kept}
 
 pub part-long : (a : ℕ) (l : List ℕ) → a ≤ length l → length (take (length l - a) (drop a l)) ≡ length l - a
 part-long a l h = simp (length-take, length-drop) (omega arith)

@@ -1,4 +1,4 @@
--- `loops::fallen` meets its contract: no total passed is below the former one. Assumes nothing.
+-- `falls::fallen` meets its contract: no total passed is below the former one. Assumes nothing.
 use mathlib.Core.Path.{_≡_, refl, sym, ap, _∙_}
 use Prim.Native.Nat.{ℕ, _+_, _-_, _<_, _≤_}
 use native.Mathlib.Omega.{arith}
@@ -7,8 +7,8 @@ use borrow.Author.Count.{below-more}
 use lib.Signed.{_≤ℤ_}
 use Rattle.words.proofs.Ints.{ltZ-true, ltZ-false}
 use Rattle.rounds.specs.Rounds.{number-at}
-use Rattle.loops.proofs.fallen.Statement.{statement}
-use Rattle.loops.proofs.fallen.Tie as tie
+use Rattle.falls.proofs.fallen.Statement.{statement}
+use Rattle.falls.proofs.fallen.Tie as tie
 
 abbrev Inv-loop : tie.InvT-loop
 Inv-loop nodes former totals u₀ u = (u ≤ nodes) × ((v : ℕ) → v < u → number-at former v ≤ℤ number-at totals v)
@@ -35,7 +35,7 @@ below-requires : tie.Need-below-requires Inv-loop μ-loop
 below-requires c κs = search needs
 
 returns : tie.Need-returns Inv-loop μ-loop
-returns c = 
+returns c =
     let l = c .before .before .before .before .before .loop in
     record { within = omega arith; before = l .inv .1; found = λ h. ltZ-true _ _ (sym (c .before .below .ensures) ∙ c .if1 .taken) }
 
@@ -46,7 +46,7 @@ loop-less : tie.Need-loop-less Inv-loop μ-loop
 loop-less c = search needs
 
 loop-again : tie.Need-loop-again Inv-loop μ-loop
-loop-again c = 
+loop-again c =
     let l = c .before .before .before .before .before .loop in
     (omega arith, below-more _ _ (l .inv .1) (ltZ-false _ _ (sym (c .before .below .ensures) ∙ c .if1 .left)))
 
