@@ -1,20 +1,20 @@
 -- Kept choices, followed back from a node whose total falls with the last round, are a walk whose total is below all shorter ones'.
 -- Assumes nothing.
-use mathlib.Core.Path.{_≡_, refl, sym, ap, _∙_, subst}
-use mathlib.Core.List.{List, [], _∷_}
-use Prim.Native.Nat.{ℕ, zero, suc, _+_, _*_, _-_, _<_, _≤_}
+use mathlib.Core.Path.{_≡_, refl, ap, _∙_, subst}
+use mathlib.Core.List.{List}
+use Prim.Native.Nat.{ℕ, zero, suc, _+_, _*_, _-_, _<_}
 use native.Mathlib.Omega.{arith}
 use lib.ListN.{length, getD}
-use lib.IntN.{ℤ, pos, _+ℤ_}
+use lib.IntN.{pos, _+ℤ_}
 use lib.Signed.{_≤ℤ_, _<ℤ_}
 use Rattle.words.specs.declared.time.Iterations.{Iterations}
-use Rattle.words.proofs.Ints.{ints, sumℤ, up-pos, down-pos}
+use Rattle.words.proofs.Ints.{ints, sumℤ}
 use Rattle.records.specs.Records.{most-nodes}
 use Rattle.folding.specs.Walks.{Net, Walk, along, round}
 use Rattle.folding.proofs.RoundLaws.{Closed, round-wire, round-zero}
 use Rattle.rounds.specs.Rounds.{bytes-net, Wired}
 use Rattle.rounds.proofs.RowLaws.{closed}
-use Rattle.falls.specs.Choices.{Reaches, Falls, Kept, to-at, back, Backed, Falling}
+use Rattle.falls.specs.Choices.{Reaches, Falls, Kept, back, Backed, Falling}
 
 -- where a total falls, so did that of the node that it was reached from
 falls-on : (g : Net) → Closed g → (k u c : ℕ) → Reaches g (round g (suc k)) (round g (suc (suc k)) u) u c → Falls g (suc k) u → Falls g k (g .to c)

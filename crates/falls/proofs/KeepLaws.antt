@@ -1,18 +1,16 @@
 -- One round more of choices: where a total falls some wire reaches it, and the row that is marked has one. Assumes nothing.
-use mathlib.Core.Path.{_≡_, refl, sym, ap, _∙_, subst}
+use mathlib.Core.Path.{_≡_, sym, ap, _∙_, subst}
 use mathlib.Core.List.{List, [], _∷_, _++_}
-use Prim.Native.Nat.{ℕ, zero, suc, _+_, _*_, _-_, _<_, _≤_}
-use mathlib.Core.Logic.{_⊎_, inl, inr}
+use Prim.Native.Nat.{ℕ, suc, _+_, _*_, _-_, _<_, _≤_}
+use mathlib.Core.Logic.{inl, inr}
 use native.Mathlib.Nat.{eq-or-lt-of-le}
 use native.Mathlib.Decide.{decLe}
 use mathlib.Core.Bool.{false}
 use native.Mathlib.Omega.{arith}
 use lib.ListN.{length, getD, take, drop, length-take, length-drop, List·getD-append}
 use lib.Seq.{getD-append-add, getD-take, length-take-le}
-use lib.IntN.{ℤ, pos, _+ℤ_}
-use lib.Signed.{_≤ℤ_, _<ℤ_}
 use Rattle.words.specs.declared.time.Iterations.{Iterations}
-use Rattle.words.proofs.Ints.{ints, sumℤ, up-pos, down-pos}
+use Rattle.words.proofs.Ints.{ints, sumℤ}
 use Rattle.records.specs.Records.{most-nodes}
 use Rattle.folding.specs.Walks.{Net, Walk, along, round, foldable}
 use Rattle.folding.proofs.RoundLaws.{Closed, round-met, round-below, round-nonpos, falls-at}

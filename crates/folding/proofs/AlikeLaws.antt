@@ -1,16 +1,13 @@
 -- Nets that say the same of every wire have the same rounds, chain, starts and loops. Assumes nothing.
 use mathlib.Core.Path.{_≡_, refl, sym, ap, _∙_, subst}
-use mathlib.Core.Logic.{_⊎_, inl, inr}
-use mathlib.Core.Bool.{Bool, true, false, cond}
 use mathlib.Core.List.{List, [], _∷_}
-use Prim.Native.Nat.{ℕ, zero, suc, _-_, _<_, _≤_}
+use Prim.Native.Nat.{ℕ, zero, suc, _-_, _<_}
 use native.Mathlib.Omega.{arith}
-use lib.ListN.{length, getD}
-use lib.Dec.{eqb}
+use lib.ListN.{getD}
 use lib.IntN.{ℤ, pos, negℤ, _+ℤ_, natAbs}
 use lib.Signed.{_<ℤ_}
 use Rattle.words.specs.Loops.{tab}
-use Rattle.folding.specs.Walks.{Net, Walk, along, Absent, Once, Loop, minℤ, better, next, row, round, stays, settled, settles, chain, foldable, latest, deepest, starts}
+use Rattle.folding.specs.Walks.{Net, Walk, along, Absent, Once, Loop, better, next, row, stays, settled, settles, chain, foldable, latest, deepest, starts}
 
 pub record Alike (g g′ : Net) : Type 0 where
   pub nodes : g .nodes ≡ g′ .nodes

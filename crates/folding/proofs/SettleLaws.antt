@@ -1,13 +1,13 @@
 -- Where the rounds settle: what is settled stays so, the chain is the first settled round, a settled net meets its bounds and no other
 -- does, and no total is far below 0. Assumes nothing.
 use mathlib.Core.Path.{_≡_, refl, sym, ap, _∙_, subst, ap₂}
-use mathlib.Core.Logic.{_⊎_, inl, inr}
-use mathlib.Core.Bool.{Bool, true, false, cond}
+use mathlib.Core.Logic.{inl, inr}
+use mathlib.Core.Bool.{true, false}
 use mathlib.Core.List.{List, [], _∷_}
 use Prim.Native.Nat.{ℕ, zero, suc, _+_, _*_, _-_, _<_, _≤_}
 use native.Mathlib.Omega.{arith}
 use lib.ListN.{length}
-use lib.IntN.{ℤ, pos, negsuc}
+use lib.IntN.{ℤ, negsuc}
 use lib.Signed.{_≤ℤ_}
 use Rattle.words.proofs.Ints.{up, down, ints, sumℤ, le-up}
 use Rattle.words.proofs.LoopLaws.{passed?}

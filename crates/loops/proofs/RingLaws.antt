@@ -1,15 +1,15 @@
 -- A walk by the places of its wires. Where it is as long as there are nodes, some wire meets a node that it has left; the part between
 -- is a loop, and may be turned to begin at any of its wires. Assumes nothing.
-use mathlib.Core.Path.{_≡_, refl, sym, ap, _∙_, subst}
+use mathlib.Core.Path.{_≡_, sym, ap, _∙_, subst}
 use mathlib.Core.List.{List, [], _∷_, _++_}
 use Prim.Native.Nat.{ℕ, zero, suc, _+_, _-_, _<_, _≤_}
 use native.Mathlib.Omega.{arith}
 use lib.ListN.{length, getD, take, drop, length-append, length-drop, take-append-drop}
-use lib.Seq.{length-take-le, getD-take, getD-drop, drop-drop}
-use lib.IntN.{ℤ, pos, _+ℤ_}
+use lib.Seq.{length-take-le, getD-take, getD-drop}
+use lib.IntN.{pos, _+ℤ_}
 use lib.Signed.{_<ℤ_}
 use Rattle.words.proofs.Ints.{ints, sumℤ, up-pos, down-pos}
-use Rattle.folding.specs.Walks.{Net, Walk, along, Absent, Once, AtLeast, Loop, round}
+use Rattle.folding.specs.Walks.{Net, Walk, along, Absent, Once, AtLeast, Loop}
 use Rattle.falls.specs.Choices.{Falling}
 use Rattle.loops.specs.Shown.{New}
 use Rattle.folding.proofs.RoundLaws.{Closed, round-below, walk-end}

@@ -1,13 +1,13 @@
 -- The part of a falling walk that closes first, turned to its lowest wire, is a loop. Assumes nothing.
-use mathlib.Core.Path.{_≡_, refl, sym, ap, _∙_, subst}
-use mathlib.Core.List.{List, [], _∷_, _++_}
+use mathlib.Core.Path.{_≡_, ap, subst}
+use mathlib.Core.List.{List, _∷_, _++_}
 use Prim.Native.Nat.{ℕ, suc, _+_, _-_, _<_, _≤_}
 use native.Mathlib.Decide.{decLe}
 use native.Mathlib.Numerals.{add-one}
 use native.Mathlib.Omega.{arith}
 use lib.ListN.{length, getD, take, drop, length-drop}
 use lib.Seq.{length-take-le, drop-cons, getD-take, getD-drop, split-at}
-use Rattle.folding.specs.Walks.{Net, AtLeast, Loop}
+use Rattle.folding.specs.Walks.{Net, Loop}
 use Rattle.folding.proofs.RoundLaws.{Closed}
 use Rattle.loops.specs.declared.Span.{Span}
 use Rattle.falls.specs.Choices.{Falling}

@@ -2,3 +2,4 @@
 pub mod StepLaws
 pub mod RowLaws
 pub mod ShiftLaws
+pub mod SheetNet

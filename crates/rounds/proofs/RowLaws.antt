@@ -1,27 +1,24 @@
 -- The totals that the code keeps are the rounds' rows: one round more, whether it is settled, and that sums fit. Assumes nothing.
-use mathlib.Core.Path.{_≡_, refl, sym, ap, _∙_, subst}
-use mathlib.Core.Logic.{_⊎_, inl, inr}
-use mathlib.Core.Bool.{Bool, true, false, not, true≢false}
+use mathlib.Core.Path.{_≡_, refl, sym, ap, _∙_}
+use mathlib.Core.Logic.{inl, inr}
+use mathlib.Core.Bool.{true, false, not, true≢false}
 use mathlib.Core.List.{List}
-use Prim.Native.Nat.{ℕ, zero, suc, _+_, _*_, _-_, _<_, _≤_}
+use Prim.Native.Nat.{ℕ, zero, suc, _-_, _<_, _≤_}
 use native.Mathlib.Omega.{arith}
-use lib.ListN.{length, getD, replicate}
+use lib.ListN.{replicate}
 use lib.Seq.{ext-getD}
-use lib.IntN.{ℤ, pos, negsuc, _+ℤ_, _-ℤ_}
-use lib.Signed.{ltZ, _≤ℤ_, _<ℤ_}
+use lib.IntN.{ℤ, pos, negsuc, _+ℤ_}
+use lib.Signed.{ltZ, _≤ℤ_}
 use borrow.Author.Tests.{not-true, not-false}
-use mir.Syntax.{w32}
-use mir.Val.{SFits}
 use Rattle.words.specs.declared.time.Iterations.{Iterations}
-use Rattle.words.specs.Loops.{tab, some-of}
 use Rattle.words.proofs.Ints.{up, down, ints, le-up, sumℤ, difℤ, ltZ-true, ltZ-false}
 use Rattle.words.proofs.FitLaws.{fits, sum-size}
-use Rattle.words.proofs.LoopLaws.{passed?, length-tab, getD-tab, some-of-cong, some-of-hit}
+use Rattle.words.proofs.LoopLaws.{passed?, length-tab, getD-tab, some-of-cong}
 use Rattle.words.proofs.CountLaws.{some-found}
 use Rattle.words.proofs.FaultLaws.{none-of}
 use Rattle.records.specs.Records.{most-nodes}
 use Rattle.sheets.specs.Sheet.{most-delays}
-use Rattle.folding.specs.Walks.{Net, Meets, better, row, round, settled, foldable}
+use Rattle.folding.specs.Walks.{Net, Meets, row, round, settled, foldable}
 use Rattle.folding.proofs.RoundLaws.{Closed, length-row, round-next, round-nonpos, settled-meets}
 use Rattle.folding.proofs.AlikeLaws.{better-same}
 use Rattle.folding.proofs.SettleLaws.{meets-settled, settled-later, settled-row, chain-first, round-low}

@@ -1,12 +1,11 @@
 -- `falls::follow` meets its contract: what is walked and what is left to follow back are the whole. Assumes nothing.
-use mathlib.Core.Path.{_≡_, refl, sym, ap, _∙_}
+use mathlib.Core.Path.{_≡_, refl, _∙_}
 use mathlib.Core.List.{_++_}
-use Prim.Native.Nat.{ℕ, suc, _+_, _*_, _-_, _<_, _≤_}
+use Prim.Native.Nat.{_-_, _≤_}
 use native.Mathlib.Nat.{sub-zero}
 use native.Mathlib.Omega.{arith}
 use borrow.Author.Needs.{needs}
 use lib.ListN.{length, take, length-set}
-use Rattle.records.specs.Records.{most-nodes}
 use Rattle.falls.specs.Choices.{back, Backed}
 use Rattle.falls.proofs.BackLaws.{Next, next-of, back-more, back-done}
 use Rattle.falls.proofs.follow.Statement.{statement}

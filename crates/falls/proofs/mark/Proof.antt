@@ -1,11 +1,9 @@
 -- `falls::mark` meets its contract: after e wires the row has a choice for every node that one of them reaches. Assumes nothing.
-use mathlib.Core.Path.{_≡_, refl, sym, ap, _∙_}
-use Prim.Native.Nat.{ℕ, _+_, _-_, _<_, _≤_}
+use mathlib.Core.Path.{_≡_, refl}
+use Prim.Native.Nat.{_-_, _<_, _≤_}
 use native.Mathlib.Omega.{arith}
 use borrow.Author.Needs.{needs}
-use lib.ListN.{length, getD, length-set}
-use lib.IntN.{ℤ, _+ℤ_}
-use lib.Signed.{ltZ}
+use lib.ListN.{length, length-set}
 use Rattle.records.specs.Records.{most-nodes}
 use Rattle.rounds.specs.Rounds.{number-at, bytes-net}
 use Rattle.falls.proofs.MarkLaws.{MarkedIn, marked-more}

@@ -1,10 +1,9 @@
 -- `loops::closes` meets its contract: no wire passed meets a node again. Assumes nothing.
-use mathlib.Core.Path.{_≡_}
-use Prim.Native.Nat.{ℕ, _+_, _-_, _<_, _≤_}
+use Prim.Native.Nat.{ℕ, _-_, _<_, _≤_}
 use native.Mathlib.Omega.{arith}
 use borrow.Author.Needs.{needs}
 use borrow.Author.Count.{below-more}
-use lib.ListN.{length, getD}
+use lib.ListN.{length}
 use Rattle.falls.specs.Choices.{from-at, to-at}
 use Rattle.loops.specs.Shown.{New}
 use Rattle.loops.proofs.closes.Statement.{statement}

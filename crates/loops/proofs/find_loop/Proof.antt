@@ -1,9 +1,9 @@
 -- `loops::find_loop` meets its contract: the part that closes is a loop, and stands from its lowest wire on. Assumes nothing.
-use mathlib.Core.Path.{_≡_, refl, sym, ap, _∙_}
-use Prim.Native.Nat.{ℕ, suc, _+_, _-_, _<_, _≤_}
+use mathlib.Core.Path.{_≡_, sym, ap, _∙_}
+use Prim.Native.Nat.{ℕ}
 use native.Mathlib.Omega.{arith}
 use borrow.Author.Needs.{needs}
-use lib.ListN.{length, take, drop}
+use lib.ListN.{length, take}
 use Rattle.records.specs.Records.{most-nodes}
 use Rattle.rounds.specs.Rounds.{bytes-net}
 use Rattle.rounds.proofs.RowLaws.{closed}

@@ -1,12 +1,12 @@
 -- `rounds::round` meets its contract: after e wires the totals are those of a round over the first e. Assumes nothing.
-use mathlib.Core.Path.{_≡_, refl, sym, ap, _∙_}
-use Prim.Native.Nat.{ℕ, _+_, _-_, _<_, _≤_}
+use mathlib.Core.Path.{_≡_, refl}
+use Prim.Native.Nat.{_-_, _<_, _≤_}
 use native.Mathlib.Omega.{arith}
 use borrow.Author.Needs.{needs}
 use lib.ListN.{length, length-set}
 use Rattle.words.specs.Loops.{some-of}
 use Rattle.records.specs.Records.{most-nodes}
-use Rattle.folding.specs.Walks.{Net, better}
+use Rattle.folding.specs.Walks.{better}
 use Rattle.rounds.specs.Rounds.{number-at, bytes-net, unmet}
 use Rattle.rounds.proofs.StepLaws.{Reached, reached-more, unmet-in, unmet-more}
 use Rattle.rounds.proofs.round.Statement.{statement}

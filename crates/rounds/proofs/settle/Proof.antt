@@ -1,13 +1,13 @@
 -- `rounds::settle` meets its contract: before turn k the totals are those of round k, and no round before it is settled. Assumes nothing.
-use mathlib.Core.Path.{_≡_, refl, sym, ap, _∙_}
-use mathlib.Core.Bool.{true, false, not, true≢false}
-use Prim.Native.Nat.{ℕ, suc, _+_, _-_, _<_, _≤_}
+use mathlib.Core.Path.{_≡_, sym, _∙_}
+use mathlib.Core.Bool.{false}
+use Prim.Native.Nat.{ℕ, _-_, _<_, _≤_}
 use native.Mathlib.Omega.{arith}
 use borrow.Author.Needs.{needs}
 use native.Mathlib.Numerals.{add-one}
 use borrow.Author.Tests.{not-true, not-false}
-use borrow.Author.Count.{below-none, below-more}
-use Rattle.folding.specs.Walks.{Net, round, settled, foldable, chain, latest}
+use borrow.Author.Count.{below-more}
+use Rattle.folding.specs.Walks.{round, settled}
 use Rattle.folding.proofs.RoundLaws.{round-zero}
 use Rattle.rounds.specs.Rounds.{number-at, bytes-net}
 use Rattle.rounds.proofs.RowLaws.{wired-whole, sums-fit, rounded-more, stays-settled, falls-unsettled, settled-answer, unsettled-answer}
