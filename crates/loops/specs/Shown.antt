@@ -21,6 +21,7 @@ New from to es q = (p : ℕ) → p ≤ q → ¬ (from (getD es p 0) ≡ to (getD
 
 -- r is the first place, not after q, where the walk leaves the node that wire q meets, or q + 1
 pub record FirstLeft (from to : ℕ → ℕ) (es : List ℕ) (q r : ℕ) : Type 0 where
+  pub within : r ≤ suc q
   pub before : (p : ℕ) → p < r → ¬ (from (getD es p 0) ≡ to (getD es q 0))
   pub found : r ≤ q → from (getD es r 0) ≡ to (getD es q 0)
 

@@ -17,6 +17,18 @@ use rounds::end_at;
 use rounds::wide;
 use words::time::Iterations;
 
+// A part of a walk, by its first and its last place.
+pub struct Span {
+    pub first: usize,
+    pub last: usize,
+}
+
+// The wires of a loop, in walking order from the lowest.
+pub struct Looped {
+    pub wires: [u8; Layout::NODES],
+    pub count: usize,
+}
+
 // One end of the wire at place i of a walk.
 fn end_of(b: &[u8], at: usize, walk: &[u8], i: usize, side: usize) -> usize
     requires { ⌜ i < length (now walk) ⌝ }
@@ -41,12 +53,6 @@ fn opens(b: &[u8], at: usize, walk: &[u8], q: usize) -> usize
         p += 1;
     }
     p
-}
-
-// A part of a walk, by its first and its last place.
-pub struct Span {
-    pub first: usize,
-    pub last: usize,
 }
 
 // The first part of the walk that closes.
@@ -100,12 +106,6 @@ fn turn(ring: &[u8], low: usize, out: &mut [u8])
         out[q] = ring[(low + q) % ring.len()];
         q += 1;
     }
-}
-
-// The wires of a loop, in walking order from the lowest.
-pub struct Looped {
-    pub wires: [u8; Layout::NODES],
-    pub count: usize,
 }
 
 // Room for a wire of every node.

@@ -26,7 +26,7 @@ module _ (g : Net) (d : ℕ → ℤ) where
 
   -- wire e, from w to v, comes to y
   module _ (e w v : ℕ) (y : Iterations) (leaves : w ≡ g .from e) (meets : v ≡ g .to e) (sum : y .0 ≡ g .bound e +ℤ d v) where
-    pub reached-more : (l : List Iterations) (x : Iterations) → w < length l →
+    reached-more : (l : List Iterations) (x : Iterations) → w < length l →
         x .0 ≡ cond (leZ (number-at l w) (y .0)) (number-at l w) (y .0) → Reached l e → Reached (set l w x) (e + 1)
     unfolding better minℤ
     reached-more l x h t r u = rw (add-one e) (elim (ℕ-discrete u w) [
@@ -38,6 +38,11 @@ module _ (g : Net) (d : ℕ → ℤ) where
           ∙ rw (ne-eqb (g .from e) u (λ z. s (sym z ∙ sym leaves))) (r u)
     ])
 
-    pub unmet-more : (was t : Bool) → t ≡ ltZ (y .0) (d w) → was ≡ unmet-in e → (was || t) ≡ unmet-in (e + 1)
+    unmet-more : (was t : Bool) → t ≡ ltZ (y .0) (d w) → was ≡ unmet-in e → (was || t) ≡ unmet-in (e + 1)
     unfolding some-of
     unmet-more was t q p = rw (add-one e, p, q, sum, leaves, meets) refl
+
+    pub wire-more : (l : List Iterations) (x : Iterations) (was t : Bool) → w < length l →
+        x .0 ≡ cond (leZ (number-at l w) (y .0)) (number-at l w) (y .0) → t ≡ ltZ (y .0) (d w) → Reached l e → was ≡ unmet-in e →
+        Reached (set l w x) (e + 1) × ((was || t) ≡ unmet-in (e + 1))
+    wire-more l x was t h better q r p = (reached-more l x h better r, unmet-more was t q p)

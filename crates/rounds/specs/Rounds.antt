@@ -49,11 +49,11 @@ pub record Wired (b : List ℕ) (at nodes wires : ℕ) : Type 0 where
 abbrev pub SumsFit : Net → (ℕ → ℤ) → Type 0
 SumsFit g d = (e : ℕ) → e < g .wires → SFits w32 (g .bound e +ℤ d (g .to e))
 
--- some wire's bound is not met by the totals d
+-- "r(U) − r(V) ≤ c on every wire" does not hold of the totals d
 unfoldable pub unmet : Net → (ℕ → ℤ) → Bool
 unmet g d = some-of (g .wires) (λ e. ltZ (g .bound e +ℤ d (g .to e)) (d (g .from e)))
 
--- one round's answer to the totals d
+-- one round's answer: every node's better total from the totals d alone, and whether there was any
 pub record Improved (g : Net) (d : ℕ → ℤ) (r : Relaxed) : Type 0 where
   pub totals : (u : ℕ) → number-at (r .totals) u ≡ better g d u (g .wires)
   pub changed : r .changed ≡ unmet g d
@@ -63,7 +63,8 @@ pub record Moderate (g : Net) : Type 0 where
   pub low : (e : ℕ) → e < g .wires → negsuc 15 ≤ℤ g .bound e
   pub high : (e : ℕ) → e < g .wires → g .bound e ≤ℤ pos most-delays
 
--- all rounds' answer: whether the net folds, and where it does the chain and every h
+-- "Relaxation rounds counted in the result and equal to the walk definition's k": whether the net folds, and where it does the chain
+-- and every h
 pub record Settling (g : Net) (r : Settled) : Type 0 where
   pub settled : r .settled ≡ foldable g
   pub rounds : foldable g ≡ true → r .rounds ≡ chain g
@@ -73,7 +74,7 @@ pub record Settling (g : Net) (r : Settled) : Type 0 where
 abbrev pub shifted : List ℤ → ℕ → ℕ → ℤ
 shifted d n u = getD d u (pos 0) -ℤ deepest d n
 
--- whether the net folds, and where it does the starts and the chain
+-- whether the net folds, and where it does the chain and every node's start
 pub record Timed (g : Net) (r : Retimed) : Type 0 where
   pub settled : r .settled ≡ foldable g
   pub rounds : foldable g ≡ true → r .rounds ≡ chain g

@@ -1,5 +1,5 @@
--- `falls::keep` meets its contract: before turn k the totals are those of round k, and the choices of the rounds before it are kept. Assumes
--- nothing.
+-- `falls::keep` meets its contract: before turn k the totals are those of round k, and the choices of the rounds before it
+-- are kept. Assumes nothing.
 use mathlib.Core.Path.{_≡_, refl, sym, ap, _∙_}
 use Prim.Native.Nat.{ℕ, suc, _+_, _*_, _-_, _<_, _≤_}
 use native.Mathlib.Omega.{arith}

@@ -31,7 +31,7 @@ end-of-requires-2 c κs =
 returns : tie.Need-returns Inv-loop μ-loop
 returns c =
     let l = c .before .before .before in
-    record { before = l .loop .inv .1; found = λ h. cc }
+    record { within = omega arith; before = l .loop .inv .1; found = λ h. cc }
 
 add-p : tie.Need-add-p Inv-loop μ-loop
 add-p c = search needs
@@ -45,7 +45,7 @@ loop-again c =
     (omega arith, below-more _ _ (l .loop .inv .1) (λ e. c .if1 .left (cc)))
 
 returns-2 : tie.Need-returns-2 Inv-loop μ-loop
-returns-2 c = record { before = c .before .loop .inv .1; found = λ h. absurd (omega arith) }
+returns-2 c = record { within = omega arith; before = c .before .loop .inv .1; found = λ h. absurd (omega arith) }
 
 pub opens-spec : {M : Type 1} → statement M
 opens-spec =

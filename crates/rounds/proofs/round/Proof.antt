@@ -8,7 +8,7 @@ use Rattle.words.specs.Loops.{some-of}
 use Rattle.records.specs.Records.{most-nodes}
 use Rattle.folding.specs.Walks.{better}
 use Rattle.rounds.specs.Rounds.{number-at, bytes-net, unmet}
-use Rattle.rounds.proofs.StepLaws.{Reached, reached-more, unmet-in, unmet-more}
+use Rattle.rounds.proofs.StepLaws.{Reached, unmet-in, wire-more}
 use Rattle.rounds.proofs.round.Statement.{statement}
 use Rattle.rounds.proofs.round.Tie as tie
 
@@ -92,16 +92,14 @@ loop-again c =
     let m = c .before .before .before .before .before .before .before in
     let l = m .before .before .before in
     let s = l .before .before .args in
-    let g = bytes-net (s .b .now) (s .at) most-nodes (s .wires) (s .t4) in
-    let d = number-at (s .t5) in
-    let long = l .loop .inv .1 in (
-      search needs,
-      simp length-set long,
-      reached-more g d (l .loop .e) (m .before .end-at .result) (m .end-at2 .result) (c .before .before .plus .result) (m .before .end-at .ensures) (m .end-at2 .ensures) (c .before .before .plus .ensures)
-          (l .loop .totals) (c .before .lesser .result) (rw long (leaves (m .before))) (c .before .lesser .ensures) (l .loop .inv .2),
-      unmet-more g d (l .loop .e) (m .before .end-at .result) (m .end-at2 .result) (c .before .before .plus .result) (m .before .end-at .ensures) (m .end-at2 .ensures) (c .before .before .plus .ensures)
-          (l .loop .changed) (c .below .result) (c .below .ensures) (l .loop .inv .3),
-    )
+    let sum = c .before .before .plus in
+    let u = m .before .end-at in
+    let long = l .loop .inv .1 in
+    let next = wire-more (bytes-net (s .b .now) (s .at) most-nodes (s .wires) (s .t4)) (number-at (s .t5)) (l .loop .e)
+    (u .result) (m .end-at2 .result) (sum .result) (u .ensures) (m .end-at2 .ensures) (sum .ensures)
+    (l .loop .totals) (c .before .lesser .result) (l .loop .changed) (c .below .result)
+    (rw long (leaves (m .before))) (c .before .lesser .ensures) (c .below .ensures) (l .loop .inv .2) (l .loop .inv .3) in
+    (search needs, simp length-set long, next .0, next .1)
 
 returns : tie.Need-returns Inv-loop μ-loop
 unfolding unmet
