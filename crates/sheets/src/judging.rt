@@ -48,12 +48,7 @@ fn sheet_read(got: HeaderRead) -> SheetRead
 pub fn read_header(b: &[u8]) -> SheetRead
     ensures { λ r. ⌜ r ≡ header-answer (now (b .entry)) ⌝ }
 {
-    sheet_read(records::reading::read_header(
-        b,
-        Sheet::HEADER_LENGTH,
-        Sheet::MARK,
-        Sheet::HEADER_MARK,
-    ))
+    sheet_read(records::reading::read_header(b, Sheet::HEADER, Sheet::MARK, Sheet::HEADER_MARK))
 }
 
 // Whether a wire joins nodes, feeds an input that its node has, and has delays in their range.
