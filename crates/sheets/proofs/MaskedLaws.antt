@@ -7,8 +7,8 @@ use lib.Dec.{ltb, leb, eqb}
 use lib.ListN.{length}
 use Rattle.words.proofs.LoopLaws.{and-split}
 use Rattle.records.specs.Units.{last-op, kind-of, k-fits}
-use Rattle.records.specs.Slots.{Masked}
-use Rattle.records.specs.Feeding.{InputMasked}
+use Rattle.slots.specs.Slots.{Masked}
+use Rattle.slots.specs.Feeding.{InputMasked}
 use Rattle.records.proofs.ReadingLaws.{Counts, counts-split}
 use Rattle.records.proofs.NodeLaws.{NodeFits, node-split, inputs-few}
 use Rattle.sheets.specs.declared.Sheet.{Sheet as Header}

@@ -7,7 +7,7 @@ use lib.ListN.{length}
 use Rattle.words.specs.Loops.{first, unless, _then_}
 use Rattle.records.specs.declared.reading.HeaderRead.{HeaderRead}
 use Rattle.records.specs.declared.reading.HeaderRead.the-variants as H
-use Rattle.records.specs.declared.feeding.Input.{Input}
+use Rattle.slots.specs.declared.feeding.Input.{Input}
 use Rattle.records.specs.Records.{fold-in, units-in, nodes-in, wires-in, counts-fit, wire-place, whole-length, record-fault, node-fits, clashes, fed-once}
 use Rattle.records.specs.Answers.{reason-number, answer, header-fault, unit-run, node-run, parts-fault}
 use Rattle.sheets.specs.declared.Sheet.{Sheet as Header}

@@ -15,16 +15,16 @@ use Rattle.words.proofs.LoopLaws.{passed?, bool-ext, and-split, and-join, every
 use Rattle.words.proofs.CountLaws.{some-found, count-one, count-two, count-found}
 use Rattle.words.proofs.FaultLaws.{none-of}
 use Rattle.words.proofs.MaskLaws.{mask-same}
 use Rattle.records.specs.declared.Unit.{Unit}
 use Rattle.records.specs.declared.Node.{Node}
-use Rattle.records.specs.declared.slots.Slots.{Slots}
-use Rattle.records.specs.declared.feeding.Input.{Input}
-use Rattle.records.specs.declared.feeding.Fed.{Fed}
+use Rattle.slots.specs.declared.Slots.{Slots}
+use Rattle.slots.specs.declared.feeding.Input.{Input}
+use Rattle.slots.specs.declared.feeding.Fed.{Fed}
 use Rattle.records.specs.Units.{kind-of, inputs, inputs-of}
 use Rattle.records.specs.Records.{runs-in, fed-once}
-use Rattle.records.specs.Slots.{SlotsOf}
-use Rattle.records.specs.Feeding.{most-inputs, mask-of, feeds-in, FedOf, unit-fed, units-fed}
+use Rattle.slots.specs.Slots.{SlotsOf}
+use Rattle.slots.specs.Feeding.{most-inputs, mask-of, feeds-in, FedOf, unit-fed, units-fed}
 use Rattle.records.proofs.NodeLaws.{inputs-few}
 
 -- ---- a unit's test, input by input
 
