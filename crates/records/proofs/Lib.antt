@@ -3,3 +3,4 @@ pub mod ReadingLaws
 pub mod NodeLaws
 pub mod ByteLaws
 pub mod AnswerLaws
+pub mod FrontLaws
