@@ -8,3 +8,5 @@ pub mod FoldingLaws
 pub mod LiveLaws
 pub mod SizeLaws
 pub mod WaitingLaws
+pub mod AlikeLaws
+pub mod SettleLaws

@@ -10,7 +10,7 @@ use lib.Dec.{ltb, eqb}
 use borrow.Author.Tests.{eqb-true, eqb-false, eq-eqb, ne-eqb, lt-ltb, le-ltb, ltb-true, ltb-false}
 use Rattle.words.specs.Loops.{total, count}
 use Rattle.words.proofs.LoopLaws.{passed?, bool-ext, total-cong}
-use Rattle.folding.specs.Lifetime.{falls}
+use Rattle.folding.specs.Lifetime.{falls, offset}
 
 -- the remainder of a number below 2 n
 small-mod : (n z : ℕ) → z < n + n → ((z < n) × (z % n ≡ z)) ⊎ ((n ≤ z) × (z % n ≡ z - n))
@@ -19,11 +19,7 @@ small-mod n z h = elim (passed? (ltb z n)) [
   | inr f ↦ let l = ltb-false z n f in inr (l, mod-eq-sub-mod l ∙ mod-eq-of-lt (let q : z - n < n = omega arith in q))
 ]
 
--- the first offset from cycle b that falls in slot t
-abbrev pub offset : ℕ → ℕ → ℕ → ℕ
-offset n b t = (t + n - b % n) % n
-
-step-test : (r o : ℕ) → cond (ltb o r) 1 0 + cond (eqb r o) 1 0 ≡ cond {A = ℕ} (ltb o (suc r)) 1 0
+pub step-test : (r o : ℕ) → cond (ltb o r) 1 0 + cond (eqb r o) 1 0 ≡ cond {A = ℕ} (ltb o (suc r)) 1 0
 step-test r o = elim (passed? (ltb o r)) [
   | inl t ↦ let l = ltb-true o r t in rw (t, ne-eqb r o (λ e. omega arith), lt-ltb o (suc r) (omega arith)) refl
   | inr f ↦ let l = ltb-false o r f in elim (passed? (eqb r o)) [
@@ -34,7 +30,7 @@ step-test r o = elim (passed? (ltb o r)) [
 
 module _ (n : ℕ) (0<n : 0 < n) where
   -- cycle b + k falls in slot t exactly where k mod n is that offset
-  slot-iff : (b k t : ℕ) → t < n → eqb ((b + k) % n) t ≡ eqb (k % n) (offset n b t)
+  pub slot-iff : (b k t : ℕ) → t < n → eqb ((b + k) % n) t ≡ eqb (k % n) (offset n b t)
   slot-iff b k t ht =
       let x = b % n in
       let y = k % n in

@@ -17,7 +17,7 @@ use Rattle.folding.proofs.RoundLaws.{Closed, round-met, round-below, fa
 
 -- ---- the lowest of a list
 
-atleast-append : (a : ℕ) (l m : List ℕ) → AtLeast a l → AtLeast a m → AtLeast a (l ++ m)
+pub atleast-append : (a : ℕ) (l m : List ℕ) → AtLeast a l → AtLeast a m → AtLeast a (l ++ m)
 atleast-append a [] m h k = k
 atleast-append a (e ∷ l) m h k = (h .0, atleast-append a l m (h .1) k)
 
@@ -52,13 +52,13 @@ low e (a ∷ l) =
 -- ---- walks end to end
 
 module _ (g : Net) where
-  along-append : (l m : List ℕ) → along g (l ++ m) ≡ along g l +ℤ along g m
+  pub along-append : (l m : List ℕ) → along g (l ++ m) ≡ along g l +ℤ along g m
   along-append [] m = omega (ints, sumℤ (pos 0) (along g m), up-pos 0, down-pos 0)
   along-append (e ∷ l) m =
       let ih = along-append l m in
       omega (ints, sumℤ (g .bound e) (along g (l ++ m)), sumℤ (g .bound e) (along g l), sumℤ (along g l) (along g m), sumℤ (g .bound e +ℤ along g l) (along g m))
 
-  walk-append : (l m : List ℕ) (u v w : ℕ) → Walk g l u v → Walk g m v w → Walk g (l ++ m) u w
+  pub walk-append : (l m : List ℕ) (u v w : ℕ) → Walk g l u v → Walk g m v w → Walk g (l ++ m) u w
   walk-append [] m u v w h k = subst (λ (z : ℕ). Walk g m z w) (sym h) k
   walk-append (e ∷ l) m u v w h k = (h .0, h .1, walk-append l m (g .to e) v w (h .2) k)
 
@@ -136,7 +136,7 @@ module _ (g : Net) where
     })
   ]
 
-  walk-split : (l m : List ℕ) (u w : ℕ) → Walk g (l ++ m) u w → (v : ℕ) × Walk g l u v × Walk g m v w
+  pub walk-split : (l m : List ℕ) (u w : ℕ) → Walk g (l ++ m) u w → (v : ℕ) × Walk g l u v × Walk g m v w
   walk-split [] m u w h = (u, refl, h)
   walk-split (e ∷ l) m u w h = let r = walk-split l m (g .to e) w (h .2) in (r .0, (h .0, h .1, r .1), r .2)
 

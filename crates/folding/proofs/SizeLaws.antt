@@ -9,11 +9,12 @@ use native.Mathlib.Omega.{arith}
 use lib.Dec.{ltb, eqb}
 use lib.ListN.{length}
 use lib.IntN.{ℤ, pos, negsuc, negℤ, _+ℤ_, _-ℤ_, _*ℤ_, natAbs}
-use lib.Signed.{_≤ℤ_, _<ℤ_, ≤ℤ-refl}
-use Rattle.words.proofs.Ints.{up, down, ints, sumℤ, difℤ, timesℤ, le-up, up-le, eq-up, up-pos, down-pos}
+use lib.Signed.{leZ, _≤ℤ_, _<ℤ_, ≤ℤ-refl}
+use Rattle.words.proofs.Ints.{up, down, ints, sumℤ, difℤ, timesℤ, le-up, up-le, lt-up, eq-up, up-pos, down-pos, leZ-true, leZ-false}
 use Rattle.words.specs.Loops.{total, largest}
 use Rattle.words.proofs.LoopLaws.{passed?, largest-le, total-le}
-use Rattle.words.proofs.FloorLaws.{floor-up}
+use Rattle.words.specs.Words.{floor}
+use Rattle.words.proofs.FloorLaws.{floor-up, floor-down}
 use Rattle.sheets.specs.Sheet.{Sheet, sheet-of, unit-of, node-of, wire-of}
 use Rattle.sheets.specs.Sound.{Sound}
 use Rattle.sheets.proofs.SheetLaws.{Passed, counts-of, nodes-is, unit-parts, node-parts, wire-parts}
@@ -103,7 +104,7 @@ module _ (s : Sheet) (sound : Sound s) (small : Small s) where
   pub tap-fits : Foldable s → (e : ℕ) → e < length (s .wires) → tap s (start (net s)) e < 65536
   tap-fits ok e h = omega (arith, tap-lt ok e h, small .fold)
 
-  last-lt : Foldable s → (u : ℕ) → longest-wait s (start (net s)) u < 816 * s .fold
+  pub last-lt : Foldable s → (u : ℕ) → longest-wait s (start (net s)) u < 816 * s .fold
   unfolding longest-wait
   last-lt ok u =
       let b = largest-le (length (s .wires)) (λ e. cond (eqb (wire-of s e .from) u) (tap s (start (net s)) e) 0) (816 * s .fold - 1)
@@ -140,3 +141,30 @@ small-of b p = record {
   depth = λ x h. unit-parts b p (node-of (sheet-of b) x .unit) (node-parts b p x h .on-unit) .depth-most;
   delays = λ e h. wire-parts b p e h .delays-most;
 }
+
+-- a bound is from −16 to 63
+module _ (s : Sheet) (sound : Sound s) (small : Small s) where
+  pub bound-low : (e : ℕ) → e < length (s .wires) → negsuc 15 ≤ℤ bound s e
+  bound-low e h = bound-ge s sound small e h
+
+  pub bound-high : (e : ℕ) → e < length (s .wires) → bound s e ≤ℤ pos 63
+  unfolding bound raw up down
+  bound-high e h =
+      let n = s .fold in
+      let y = wire-of s e .from in
+      let x = wire-of s e .to in
+      let D = pos (n * wire-of s e .delays + node-of s x .slot) -ℤ pos (depth-of s y + node-of s y .slot) in
+      let w : n * wire-of s e .delays ≤ n * 63 = mul-le-mul-left n (small .delays e h) in
+      elim (passed? (leZ (pos 64) (floor D n))) [
+        | inl t ↦
+            let k = le-up (floor-down n (sound .turns) (pos 64) D (leZ-true (pos 64) (floor D n) t)) in
+            absurd (omega (
+              arith,
+              k,
+              timesℤ n (pos 64) .0,
+              timesℤ n (pos 64) .1,
+              difℤ (pos (n * wire-of s e .delays + node-of s x .slot)) (pos (depth-of s y + node-of s y .slot)),
+              sound .in-turn x (sound .meets e h),
+            ))
+        | inr f ↦ up-le (omega (arith, lt-up (leZ-false (pos 64) (floor D n) f)))
+      ]

@@ -1,0 +1,5 @@
+-- Laws.
+pub mod MarkLaws
+pub mod KeepLaws
+pub mod BackLaws
+pub mod FallLaws

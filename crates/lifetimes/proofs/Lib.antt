@@ -1,0 +1,3 @@
+-- Laws.
+pub mod CountedLaws
+pub mod LiveSums

@@ -1,0 +1,2 @@
+-- What a reader must believe of live counts in code.
+pub mod Counts

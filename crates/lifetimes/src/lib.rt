@@ -1,0 +1,124 @@
+// Live counts and registers in closed form: what a wait holds beyond whole rounds of N is counted slot by slot, and the rounds once.
+ghost use mathlib.Core.Path.{_≡_};
+ghost use Prim.Native.Nat.{_+_, _%_, _<_, _≤_, max};
+ghost use lib.ListN.{getD};
+ghost use Rattle.words.specs.Loops.{largest};
+ghost use mathlib.Core.Bool.{true};
+ghost use Rattle.sheets.specs.Sheet.{sheet-of};
+ghost use Rattle.folding.specs.Walks.{start, foldable};
+ghost use Rattle.folding.specs.Folding.{net};
+ghost use Rattle.folding.specs.Lifetime.{first-live, registers};
+ghost use Rattle.waits.specs.Fine.{Fine, Longest, from-node};
+ghost use Rattle.lifetimes.specs.Counts.{Counted, Small, LiveOf};
+use sheets::Sheet;
+use words::time::Cycles;
+
+pub struct Counts {}
+
+impl Counts {
+    // N is at most this.
+    pub const SLOTS: usize = 32;
+}
+
+// The slot after t.
+fn next_slot(t: u32, fold: u32) -> u32
+    requires { ⌜ (t < fold) × (fold ≤ 32) ⌝ }
+    ensures { λ r. ⌜ r ≡ (t + 1) % fold ⌝ }
+{
+    if t + 1 == fold { 0 } else { t + 1 }
+}
+
+// The counts with `rest` live cycles more, from cycle `first` on; they are fewer than a round.
+fn with_rest(counts: [u32; 32], fold: u32, first: u32, rest: u32) -> [u32; 32]
+    requires { ⌜ (0 < fold) × (fold ≤ 32) ⌝ }
+    requires { ⌜ rest < fold ⌝ }
+    requires { ⌜ Small fold counts 1000 ⌝ }
+    ensures { λ r. ⌜ Counted fold first rest counts r ⌝ }
+{
+    let mut live = counts;
+    let mut t = first % fold;
+    let mut i = 0;
+    while i < rest {
+        let k = t as usize;
+        live[k] = live[k] + 1;
+        t = next_slot(t, fold);
+        i += 1;
+    }
+    live
+}
+
+// The largest of the first counts.
+pub fn most(counts: [u32; 32], fold: usize) -> u32
+    requires { ⌜ fold ≤ 32 ⌝ }
+    ensures { λ r. ⌜ r ≡ largest fold (λ t. getD counts t 0) ⌝ }
+{
+    let mut top = 0;
+    let mut t = 0;
+    while t < fold {
+        let c = counts[t];
+        top = larger(top, c);
+        t += 1;
+    }
+    top
+}
+
+fn larger(a: u32, b: u32) -> u32
+    ensures { λ r. ⌜ r ≡ max a b ⌝ }
+{
+    if a < b { b } else { a }
+}
+
+// The first cycle in which node x's word is live.
+fn first_live(b: &[u8], sheet: Sheet, x: usize) -> u32
+    requires { ⌜ Fine (now b) sheet ⌝ }
+    requires { ⌜ x < sheet .nodes ⌝ }
+    ensures { λ r. ⌜ r ≡ first-live (sheet-of (now (b .entry))) x ⌝ }
+{
+    let node = sheets::node_of(b, sheet, x);
+    let unit = sheets::unit_of(b, sheet, node.unit as usize);
+    node.slot as u32 + unit.depth as u32 + 1
+}
+
+// The live cycles of all nodes: the whole rounds, which count in every slot, and what is left by slots.
+pub struct Live {
+    pub counts: [u32; 32],
+    pub turns: u32,
+}
+
+pub fn live_counts(b: &[u8], sheet: Sheet, longest: [Cycles; 48]) -> Live
+    requires { ⌜ Fine (now b) sheet ⌝ }
+    requires { ⌜ foldable (net (sheet-of (now b))) ≡ true ⌝ }
+    requires { ⌜ Longest (now b) (from-node (now b)) 48 longest ⌝ }
+    ensures { λ r. ⌜ LiveOf (now (b .entry)) (sheet .nodes) r ⌝ }
+{
+    let nodes = sheet.nodes as usize;
+    let fold = sheet.fold;
+    let mut counts = [0u32; 32];
+    let mut turns = 0;
+    let mut x = 0;
+    while x < nodes {
+        let wait = longest[x];
+        let next = with_rest(
+            counts,
+            fold as u32,
+            first_live(b, sheet, x),
+            wait.rest(fold),
+        );
+        counts = next;
+        turns += wait.turns(fold);
+        x += 1;
+    }
+    Live { counts, turns }
+}
+
+// The register figure: the largest live count of any slot.
+pub fn registers(b: &[u8], sheet: Sheet, longest: [Cycles; 48]) -> u16
+    requires { ⌜ Fine (now b) sheet ⌝ }
+    requires { ⌜ foldable (net (sheet-of (now b))) ≡ true ⌝ }
+    requires { ⌜ Longest (now b) (from-node (now b)) 48 longest ⌝ }
+    ensures { λ r. ⌜ r ≡ registers (sheet-of (now (b .entry))) (start (net (sheet-of (now (b .entry))))) ⌝ }
+{
+    let live = live_counts(b, sheet, longest);
+    let counts = live.counts;
+    (most(counts, sheet.fold as usize) + live.turns) as u16
+}

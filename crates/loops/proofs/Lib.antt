@@ -1,0 +1,4 @@
+-- Laws.
+pub mod RingLaws
+pub mod TurnLaws
+pub mod ShownLaws

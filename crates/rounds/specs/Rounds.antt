@@ -1,0 +1,81 @@
+-- The net that a sheet's wire records and their bounds say, read where they stand, and what the rounds over it are asked and answer.
+-- Assumes nothing.
+use mathlib.Core.Path.{_≡_}
+use mathlib.Core.Bool.{Bool, true}
+use mathlib.Core.List.{List}
+use Prim.Native.Nat.{ℕ, _+_, _*_, _<_, _≤_}
+use lib.ListN.{length, getD}
+use lib.IntN.{ℤ, pos, negsuc, _+ℤ_, _-ℤ_}
+use lib.Signed.{ltZ, _≤ℤ_}
+use mir.Syntax.{w32}
+use mir.Val.{SFits}
+use Rattle.words.specs.declared.time.Iterations.{Iterations}
+use Rattle.words.specs.Loops.{tab, some-of}
+use Rattle.records.specs.Records.{most-nodes, most-wires}
+use Rattle.sheets.specs.Sheet.{sheet-format, wire-at, most-delays}
+use Rattle.folding.specs.Walks.{Net, better, chain, foldable, latest, deepest, start}
+use Rattle.rounds.specs.declared.Relaxed.{Relaxed}
+use Rattle.rounds.specs.declared.Settled.{Settled}
+use Rattle.rounds.specs.declared.Retimed.{Retimed}
+
+-- the number of element i
+abbrev pub number-at : List Iterations → ℕ → ℤ
+number-at l i = getD l i (record { 0 = pos 0 }) .0
+
+-- the totals of the first n nodes
+abbrev pub row-of : ℕ → List Iterations → List ℤ
+row-of n l = tab n (number-at l)
+
+-- the wires whose records stand in b from byte `at` on, each with its bound
+abbrev pub bytes-net : List ℕ → ℕ → ℕ → ℕ → List Iterations → Net
+bytes-net b at nodes wires bounds = record {
+  nodes = nodes;
+  wires = wires;
+  from = λ e. wire-at b (at + sheet-format .wire-length * e) .from;
+  to = λ e. wire-at b (at + sheet-format .wire-length * e) .to;
+  bound = number-at bounds;
+}
+
+-- the records stand in b, and their ends are nodes
+pub record Wired (b : List ℕ) (at nodes wires : ℕ) : Type 0 where
+  pub some-node : 0 < nodes
+  pub few-nodes : nodes ≤ most-nodes
+  pub few-wires : wires ≤ most-wires
+  pub inside : at + sheet-format .wire-length * wires ≤ length b
+  pub leaves : (e : ℕ) → e < wires → wire-at b (at + sheet-format .wire-length * e) .from < nodes
+  pub meets : (e : ℕ) → e < wires → wire-at b (at + sheet-format .wire-length * e) .to < nodes
+
+-- what each wire comes to fits
+abbrev pub SumsFit : Net → (ℕ → ℤ) → Type 0
+SumsFit g d = (e : ℕ) → e < g .wires → SFits w32 (g .bound e +ℤ d (g .to e))
+
+-- "r(U) − r(V) ≤ c on every wire" does not hold of the totals d
+unfoldable pub unmet : Net → (ℕ → ℤ) → Bool
+unmet g d = some-of (g .wires) (λ e. ltZ (g .bound e +ℤ d (g .to e)) (d (g .from e)))
+
+-- one round's answer: every node's better total from the totals d alone, and whether there was any
+pub record Improved (g : Net) (d : ℕ → ℤ) (r : Relaxed) : Type 0 where
+  pub totals : (u : ℕ) → number-at (r .totals) u ≡ better g d u (g .wires)
+  pub changed : r .changed ≡ unmet g d
+
+-- no bound is below −16 or above 63: "depth 1 to 16, delays 0 to 63"
+pub record Moderate (g : Net) : Type 0 where
+  pub low : (e : ℕ) → e < g .wires → negsuc 15 ≤ℤ g .bound e
+  pub high : (e : ℕ) → e < g .wires → g .bound e ≤ℤ pos most-delays
+
+-- "Relaxation rounds counted in the result and equal to the walk definition's k": whether the net folds, and where it does the chain
+-- and every h
+pub record Settling (g : Net) (r : Settled) : Type 0 where
+  pub settled : r .settled ≡ foldable g
+  pub rounds : foldable g ≡ true → r .rounds ≡ chain g
+  pub totals : foldable g ≡ true → row-of (g .nodes) (r .totals) ≡ latest g
+
+-- "One constant is added to all values so that the smallest is 0": node u of the first n of the totals d, none of which is above 0
+abbrev pub shifted : List ℤ → ℕ → ℕ → ℤ
+shifted d n u = getD d u (pos 0) -ℤ deepest d n
+
+-- whether the net folds, and where it does the chain and every node's start
+pub record Timed (g : Net) (r : Retimed) : Type 0 where
+  pub settled : r .settled ≡ foldable g
+  pub rounds : foldable g ≡ true → r .rounds ≡ chain g
+  pub starts : foldable g ≡ true → (u : ℕ) → u < g .nodes → number-at (r .starts) u ≡ pos (start g u)

@@ -1,0 +1,197 @@
+// Rounds over a sheet's wires, whose records are read where they stand. A round makes every node's total from the former round's
+// alone, so that after k rounds it is the least over walks of at most k wires, and the rounds counted until nothing changes are the
+// chain. Assumes nothing.
+ghost use mathlib.Core.Path.{_≡_};
+ghost use Prim.Native.Nat.{ℕ, _+_, _*_, _<_, _≤_};
+ghost use lib.ListN.{length, getD};
+ghost use lib.IntN.{pos};
+ghost use mir.Syntax.{w32};
+ghost use mir.Val.{SFits};
+ghost use Rattle.records.specs.Records.{most-nodes};
+ghost use Rattle.sheets.specs.Sheet.{sheet-format};
+ghost use Rattle.folding.specs.Walks.{deepest};
+ghost use Rattle.rounds.specs.Rounds.{number-at, row-of, bytes-net, Wired, SumsFit, Improved, Moderate, Settling, shifted, Timed};
+use words::time::Iterations;
+
+// Limits of a sheet, and where a wire's record has its two ends.
+pub struct Layout {}
+
+impl Layout {
+    pub const NODES: usize = 48;
+
+    pub const WIRES: usize = 96;
+
+    pub const RECORD: usize = 6;
+
+    pub const FROM: usize = 2;
+
+    pub const TO: usize = 3;
+}
+
+// What one round makes of the former totals.
+pub struct Relaxed {
+    pub totals: [Iterations; Layout::NODES],
+    pub changed: bool,
+}
+
+// What the rounds come to, and how many there were.
+pub struct Settled {
+    pub totals: [Iterations; Layout::NODES],
+    pub rounds: u8,
+    pub settled: bool,
+}
+
+// The latest retiming: starts, and the rounds that it took.
+pub struct Retimed {
+    pub starts: [Iterations; Layout::NODES],
+    pub rounds: u8,
+    pub settled: bool,
+}
+
+pub fn wide(x: u8) -> usize
+    ensures { λ r. ⌜ r ≡ x ⌝ }
+{
+    x as usize
+}
+
+// One end of wire e; the records stand in b from byte `at` on.
+pub fn end_at(b: &[u8], at: usize, e: usize, side: usize) -> usize
+    requires { ⌜ at + sheet-format .wire-length * e + side < length (now b) ⌝ }
+    ensures { λ r. ⌜ r ≡ getD (now (b .entry)) (at + sheet-format .wire-length * e + side) 0 ⌝ }
+{
+    wide(b[at + Layout::RECORD * e + side])
+}
+
+// One round: for every wire the better total of its first end, from the former totals alone, and whether some bound was not met.
+pub fn round(
+    b: &[u8],
+    at: usize,
+    wires: usize,
+    bounds: [Iterations; Layout::WIRES],
+    former: [Iterations; Layout::NODES],
+) -> Relaxed
+    requires { ⌜ Wired (now b) at most-nodes wires ⌝ }
+    requires { ⌜ SumsFit (bytes-net (now b) at most-nodes wires bounds) (number-at former) ⌝ }
+    ensures { λ r. ⌜ Improved (bytes-net (now (b .entry)) at most-nodes wires bounds) (number-at former) r ⌝ }
+{
+    let mut totals = former;
+    let mut changed = false;
+    let mut e = 0;
+    while e < wires {
+        let u = end_at(b, at, e, Layout::FROM);
+        let v = end_at(b, at, e, Layout::TO);
+        let old = former[u];
+        let near = totals[u];
+        let far = former[v];
+        let bound = bounds[e];
+        let sum = bound.plus(far);
+        totals[u] = near.lesser(sum);
+        changed = changed | sum.below(old);
+        e += 1;
+    }
+    Relaxed { totals, changed }
+}
+
+// The empty walk counts 0.
+pub fn no_totals() -> [Iterations; Layout::NODES]
+    ensures { λ r. ⌜ ((u : ℕ) → number-at r u ≡ pos 0) ⌝ }
+{
+    [Iterations::zero(); Layout::NODES]
+}
+
+// Rounds until nothing changes, at most as many as there are nodes.
+pub fn settle(
+    b: &[u8],
+    at: usize,
+    wires: usize,
+    nodes: usize,
+    bounds: [Iterations; Layout::WIRES],
+) -> Settled
+    requires { ⌜ Wired (now b) at nodes wires ⌝ }
+    requires { ⌜ Moderate (bytes-net (now b) at nodes wires bounds) ⌝ }
+    ensures { λ r. ⌜ Settling (bytes-net (now (b .entry)) at nodes wires bounds) r ⌝ }
+{
+    let made = no_totals();
+    let mut totals = made;
+    let mut k = 0;
+    while k < nodes {
+        let next = round(b, at, wires, bounds, totals);
+        if !next.changed {
+            return Settled {
+                totals,
+                rounds: k as u8,
+                settled: true,
+            };
+        }
+        let after = next.totals;
+        totals = after;
+        k += 1;
+    }
+    Settled {
+        totals,
+        rounds: nodes as u8,
+        settled: false,
+    }
+}
+
+// The least of the first totals, none of which is above 0.
+fn deepest(totals: [Iterations; Layout::NODES], nodes: usize) -> Iterations
+    requires { ⌜ nodes ≤ most-nodes ⌝ }
+    ensures { λ r. ⌜ r .0 ≡ deepest (row-of nodes totals) nodes ⌝ }
+{
+    let mut least = Iterations::zero();
+    let mut u = 0;
+    while u < nodes {
+        let total = totals[u];
+        least = least.lesser(total);
+        u += 1;
+    }
+    least
+}
+
+// One constant is added to all totals so that the smallest is 0.
+pub fn starts(totals: [Iterations; Layout::NODES], nodes: usize) -> [Iterations; Layout::NODES]
+    requires { ⌜ nodes ≤ most-nodes ⌝ }
+    requires { ⌜ ((u : ℕ) → u < nodes → SFits w32 (shifted (row-of nodes totals) nodes u)) ⌝ }
+    ensures { λ r. ⌜ ((u : ℕ) → u < nodes → number-at r u ≡ shifted (row-of nodes totals) nodes u) ⌝ }
+{
+    let least = deepest(totals, nodes);
+    let made = no_totals();
+    let mut starts = made;
+    let mut u = 0;
+    while u < nodes {
+        let total = totals[u];
+        starts[u] = total.minus(least);
+        u += 1;
+    }
+    starts
+}
+
+// Rounds, and where they settle the starts.
+pub fn retime(
+    b: &[u8],
+    at: usize,
+    wires: usize,
+    nodes: usize,
+    bounds: [Iterations; Layout::WIRES],
+) -> Retimed
+    requires { ⌜ Wired (now b) at nodes wires ⌝ }
+    requires { ⌜ Moderate (bytes-net (now b) at nodes wires bounds) ⌝ }
+    ensures { λ r. ⌜ Timed (bytes-net (now (b .entry)) at nodes wires bounds) r ⌝ }
+{
+    let rows = settle(b, at, wires, nodes, bounds);
+    let totals = rows.totals;
+    if !rows.settled {
+        return Retimed {
+            starts: totals,
+            rounds: rows.rounds,
+            settled: false,
+        };
+    }
+    let shifted = starts(totals, nodes);
+    Retimed {
+        starts: shifted,
+        rounds: rows.rounds,
+        settled: true,
+    }
+}

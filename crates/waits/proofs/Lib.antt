@@ -1,0 +1,4 @@
+-- Laws.
+pub mod FineLaws
+pub mod WaitSizes
+pub mod LongestLaws

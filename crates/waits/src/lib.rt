@@ -1,0 +1,123 @@
+// Raw waits, bounds and waits of all wires of a sheet without fault, and the longest of them by node and by unit.
+ghost use mathlib.Core.Path.{_≡_};
+ghost use Prim.Native.Nat.{ℕ, _<_, _≤_};
+ghost use lib.IntN.{pos, _+ℤ_, _-ℤ_, _*ℤ_};
+ghost use lib.Signed.{_≤ℤ_};
+ghost use Rattle.words.specs.Times.{iterations-at, cycles-at};
+ghost use Rattle.sheets.specs.Sheet.{sheet-of};
+ghost use Rattle.folding.specs.Folding.{raw, bound};
+ghost use Rattle.waits.specs.Fine.{Fine, Started, Tapped, Longest, from-node, from-unit, Near};
+use sheets::Sheet;
+use words::time::Cycles;
+use words::time::Iterations;
+
+// The raw wait of wire e.
+fn raw_wait(b: &[u8], sheet: Sheet, e: usize) -> Cycles
+    requires { ⌜ Fine (now b) sheet ⌝ }
+    requires { ⌜ e < sheet .wires ⌝ }
+    ensures { λ r. ⌜ r .0 ≡ raw (sheet-of (now (b .entry))) e ⌝ }
+{
+    let wire = sheets::wire_of(b, sheet, e);
+    let from = sheets::node_of(b, sheet, wire.from as usize);
+    let to = sheets::node_of(b, sheet, wire.to as usize);
+    let unit = sheets::unit_of(b, sheet, from.unit as usize);
+    Cycles::raw(sheet.fold, wire.delays, unit.depth, from.slot, to.slot)
+}
+
+// The bounds of all wires, into an array that was made before the records were read.
+pub fn bounds(b: &[u8], sheet: Sheet, made: [Iterations; 96]) -> [Iterations; 96]
+    requires { ⌜ Fine (now b) sheet ⌝ }
+    ensures { λ r. ⌜ ((e : ℕ) → e < sheet .wires → iterations-at r e ≡ bound (sheet-of (now (b .entry))) e) ⌝ }
+{
+    let wires = sheet.wires as usize;
+    let mut bounds = made;
+    let mut e = 0;
+    while e < wires {
+        bounds[e] = raw_wait(b, sheet, e).bound(sheet.fold);
+        e += 1;
+    }
+    bounds
+}
+
+// The wait of wire e between the starts of its two nodes.
+fn wait_of(b: &[u8], sheet: Sheet, e: usize, from: Iterations, to: Iterations) -> Cycles
+    requires { ⌜ Fine (now b) sheet ⌝ }
+    requires { ⌜ e < sheet .wires ⌝ }
+    requires { ⌜ Near (from .0) × Near (to .0) ⌝ }
+    ensures { λ r. ⌜ r .0 ≡ raw (sheet-of (now (b .entry))) e +ℤ pos (sheet .fold) *ℤ (to .0 -ℤ from .0) ⌝ }
+{
+    raw_wait(b, sheet, e).plus(to.minus(from).cycles(sheet.fold))
+}
+
+// The waits of all wires after the starts.
+pub fn waits(b: &[u8], sheet: Sheet, starts: [Iterations; 48], made: [Cycles; 96]) -> [Cycles; 96]
+    requires { ⌜ Fine (now b) sheet ⌝ }
+    requires { ⌜ Started (now b) starts ⌝ }
+    ensures { λ r. ⌜ Tapped (now (b .entry)) r ⌝ }
+{
+    let wires = sheet.wires as usize;
+    let mut waits = made;
+    let mut e = 0;
+    while e < wires {
+        let wire = sheets::wire_of(b, sheet, e);
+        let from = wire.from as usize;
+        let to = wire.to as usize;
+        waits[e] = wait_of(b, sheet, e, starts[from], starts[to]);
+        e += 1;
+    }
+    waits
+}
+
+// No waits yet.
+fn no_waits() -> [Cycles; 48]
+    ensures { λ r. ⌜ ((k : ℕ) → cycles-at r k ≡ pos 0) ⌝ }
+{
+    [Cycles::zero(); 48]
+}
+
+fn no_lines() -> [Cycles; 8]
+    ensures { λ r. ⌜ ((k : ℕ) → cycles-at r k ≡ pos 0) ⌝ }
+{
+    [Cycles::zero(); 8]
+}
+
+// The longest wait of the wires that leave each node.
+pub fn longest_waits(b: &[u8], sheet: Sheet, waits: [Cycles; 96]) -> [Cycles; 48]
+    requires { ⌜ Fine (now b) sheet ⌝ }
+    requires { ⌜ Tapped (now b) waits ⌝ }
+    ensures { λ r. ⌜ Longest (now (b .entry)) (from-node (now (b .entry))) 48 r ⌝ }
+{
+    let wires = sheet.wires as usize;
+    let made = no_waits();
+    let mut longest = made;
+    let mut e = 0;
+    while e < wires {
+        let wire = sheets::wire_of(b, sheet, e);
+        let from = wire.from as usize;
+        let old = longest[from];
+        longest[from] = old.larger(waits[e]);
+        e += 1;
+    }
+    longest
+}
+
+// The length of each unit's line: the longest tap that reads it.
+pub fn lines(b: &[u8], sheet: Sheet, waits: [Cycles; 96]) -> [Cycles; 8]
+    requires { ⌜ Fine (now b) sheet ⌝ }
+    requires { ⌜ Tapped (now b) waits ⌝ }
+    ensures { λ r. ⌜ Longest (now (b .entry)) (from-unit (now (b .entry))) 8 r ⌝ }
+{
+    let wires = sheet.wires as usize;
+    let made = no_lines();
+    let mut lines = made;
+    let mut e = 0;
+    while e < wires {
+        let wire = sheets::wire_of(b, sheet, e);
+        let node = sheets::node_of(b, sheet, wire.from as usize);
+        let unit = node.unit as usize;
+        let old = lines[unit];
+        lines[unit] = old.larger(waits[e]);
+        e += 1;
+    }
+    lines
+}
