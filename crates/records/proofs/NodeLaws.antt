@@ -1,7 +1,7 @@
 -- What a node in its ranges and nodes that do not clash are known to be. Assumes nothing.
 use mathlib.Core.Path.{_≡_, refl, sym, ap, _∙_}
-use mathlib.Core.Logic.{_⊎_, inl, inr}
-use mathlib.Core.Bool.{Bool, true, false, _&&_, _||_, true≢false}
+use mathlib.Core.Logic.{inl, inr}
+use mathlib.Core.Bool.{Bool, true, false, _&&_, true≢false}
 use Prim.Native.Nat.{ℕ, _<_, _≤_}
 use native.Mathlib.Decide.{ℕ-discrete}
 use native.Mathlib.Omega.{arith}
@@ -17,8 +17,9 @@ use Rattle.words.proofs.LoopLaws.{passed?, and-split}
 use Rattle.words.proofs.FaultLaws.{or-split, none-of}
 use Rattle.records.specs.declared.Unit.{Unit}
 use Rattle.records.specs.declared.Node.{Node}
-use Rattle.records.specs.Units.{port, adder, inputs, op-port, op-sum, op-difference, op-scale, last-op, value, kind-of, multiplier, least-depth, most-depth, k-least, k-most, k-fits, unit-fits}
+use Rattle.records.specs.Units.{port, adder, inputs, op-port, op-sum, op-difference, op-scale, last-op, value, kind-of, multiplier, least-depth, most-depth, k-least, k-most, k-fits, unit-fits, channels}
 use Rattle.records.specs.Records.{node-fits, clash, clashes}
+use Rattle.records.specs.Answers.{channel-of}
 
 pub record UnitFits (u : Unit) : Type 0 where
   pub kind-most : u .kind ≤ multiplier
@@ -138,3 +139,21 @@ value-below op k sample a b h = elim (passed? (eqb op op-port)) [
     ]
   ]
 ]
+
+-- ---- channels
+
+-- the K of a port is its channel
+pub port-k : (op : ℕ) (k : ℤ) → op ≡ op-port → k-fits op k ≡ true → (c : ℕ) × (k ≡ pos c) × (c < channels)
+port-k op (pos c) e h =
+    let f : k-fits op-port (pos c) ≡ true = rw e at h in
+    (c, refl, omega (arith, leb-true c 15 (and-split (leb 0 c) (leb c 15) f .1)))
+port-k op (negsuc c) e h =
+    let f : false ≡ true = rw e at h in
+    absurd (true≢false (sym f))
+
+pub channel-below : (n : Node) → k-fits (n .op) (n .k) ≡ true → channel-of n < channels
+channel-below n h = by-op (eqb (n .op) op-port) refl
+  where
+    by-op : (port : Bool) → eqb (n .op) op-port ≡ port → channel-of n < channels
+    by-op true e = let c = port-k (n .op) (n .k) (eqb-true (n .op) op-port e) h in rw (e, c .1) (c .2)
+    by-op false e = rw e (omega arith)

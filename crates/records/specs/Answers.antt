@@ -4,6 +4,7 @@ use mathlib.Core.List.{List, [], _∷_}
 use Prim.Native.Nat.{ℕ, zero, suc, _+_, _*_, _≤_}
 use lib.Dec.{leb, eqb}
 use lib.ListN.{length}
+use lib.IntN.{natAbs}
 use Rattle.words.specs.Loops.{first, unless, _then_}
 use Rattle.records.specs.declared.Unit.{Unit}
 use Rattle.records.specs.declared.Node.{Node}
@@ -19,8 +20,8 @@ use Rattle.records.specs.declared.reading.UnitRead.the-variants as U
 use Rattle.records.specs.declared.reading.NodeRead.{NodeRead}
 use Rattle.records.specs.declared.reading.NodeRead.the-variants as N
 use Rattle.records.specs.declared.reading.Run.{Run}
-use Rattle.records.specs.Units.{unit-fits}
-use Rattle.records.specs.Records.{at, Format, fold-in, units-in, nodes-in, wires-in, most-fold, most-units, most-nodes, most-wires, between, counts-fit, unit-at, node-at, record-fault, node-fits}
+use Rattle.records.specs.Units.{op-port, unit-fits}
+use Rattle.records.specs.Records.{at, Format, fold-in, units-in, nodes-in, wires-in, most-fold, most-units, most-nodes, most-wires, between, counts-fit, whole-length, unit-at, node-at, record-fault, node-fits}
 
 -- ---- "Each call ends in its result or one numbered refusal": reasons and 01's numbers
 
@@ -139,3 +140,13 @@ nodes-fault b fold us r = first (r .count) (node-fault b fold us r)
 -- "then total length; then each record in file order": up to the nodes, of bytes that should be so long
 abbrev pub parts-fault : List ℕ → ℕ → ℕ → Run → Run → ℕ
 parts-fault b whole fold us r = unless (eqb (length b) whole) 1 then units-fault b us then nodes-fault b fold us r
+
+-- the same of bytes in a format, by what their header says
+unfoldable pub front-fault : Format → List ℕ → ℕ
+front-fault f b = parts-fault b (whole-length f b) (fold-in b) (unit-run f (units-in b)) (node-run f (units-in b) (nodes-in b))
+
+-- ---- ports
+
+-- "channel 0 to 15": a port's channel is its K; any other node has none, and 0 stands for it
+abbrev pub channel-of : Node → ℕ
+channel-of n = cond (eqb (n .op) op-port) (natAbs (n .k)) 0

@@ -2,5 +2,3 @@
 pub mod Units
 pub mod Records
 pub mod Answers
-pub mod Slots
-pub mod Feeding

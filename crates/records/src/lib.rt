@@ -2,11 +2,9 @@
 ghost use mathlib.Core.Path.{_≡_};
 ghost use mathlib.Core.Bool.{true};
 ghost use Rattle.records.specs.Units.{kind-of, inputs, k-least, k-most, k-fits, unit-fits, value};
-ghost use Rattle.records.specs.Slots.{channel-of};
+ghost use Rattle.records.specs.Answers.{channel-of};
 
-pub mod feeding;
 pub mod reading;
-pub mod slots;
 
 // A unit: its kind and its pipeline depth.
 pub struct Unit {

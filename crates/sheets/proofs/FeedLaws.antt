@@ -8,15 +8,15 @@ use lib.Dec.{eqb}
 use lib.ListN.{length}
 use Rattle.words.proofs.LoopLaws.{pair-test}
 use Rattle.records.specs.declared.Unit.{Unit}
-use Rattle.records.specs.declared.slots.Slots.{Slots}
-use Rattle.records.specs.declared.feeding.Fed.{Fed}
+use Rattle.slots.specs.declared.Slots.{Slots}
+use Rattle.slots.specs.declared.feeding.Fed.{Fed}
 use Rattle.records.specs.declared.reading.Run.{Run}
 use Rattle.records.specs.Records.{clashes, fed-once}
 use Rattle.records.specs.Answers.{unit-run, units-in-run}
-use Rattle.records.specs.Slots.{SlotsOf}
-use Rattle.records.specs.Feeding.{feeds-in, FedOf, units-fed}
+use Rattle.slots.specs.Slots.{SlotsOf}
+use Rattle.slots.specs.Feeding.{feeds-in, FedOf, units-fed}
 use Rattle.records.proofs.NodeLaws.{clash-apart}
-use Rattle.records.proofs.FedLaws.{fed-right}
+use Rattle.slots.proofs.FedLaws.{fed-right}
 use Rattle.sheets.specs.declared.Sheet.{Sheet as Header}
 use Rattle.sheets.specs.Sheet.{node-of, wire-of, sheet-format, sheet-of, feeds}
 use Rattle.sheets.specs.Answers.{input-of, Held}

@@ -5,23 +5,40 @@ use Prim.Native.Nat.{ℕ, _+_, _<_, _≤_}
 use native.Mathlib.Omega.{arith}
 use lib.ListN.{length}
 use Rattle.records.specs.declared.reading.Run.{Run}
-use Rattle.records.specs.Records.{units-in, nodes-in, wires-in, wire-place, marked}
+use Rattle.records.specs.Records.{fold-in, units-in, nodes-in, wires-in, wire-place, marked}
 use Rattle.records.specs.Answers.{unit-part, node-part, place, mark-of, unit-run, node-run, wire-run, Inside, units-in-run, nodes-in-run}
 use Rattle.records.proofs.AnswerLaws.{in-run, units-inside, nodes-inside, wires-inside}
 use Rattle.sheets.specs.declared.Sheet.{Sheet as Header}
 use Rattle.sheets.specs.Sheet.{unit-of, node-of, wire-of, sheet-format, wire-at, sheet-of}
-use Rattle.sheets.specs.Answers.{Whole}
+use Rattle.sheets.specs.Answers.{header-of, Whole}
 use Rattle.sheets.proofs.SheetLaws.{units-is, nodes-is, wires-is, unit-read, node-read, wire-read}
+
+-- ---- what the header says
+
+module _ (b : List ℕ) (s : Header) (e : s ≡ header-of b) where
+  pub said-fold : s .fold ≡ fold-in b
+  said-fold = ap (λ (s : Header). s .fold) e
+
+  pub said-units : s .units ≡ units-in b
+  said-units = ap (λ (s : Header). s .units) e
+
+  pub said-nodes : s .nodes ≡ nodes-in b
+  said-nodes = ap (λ (s : Header). s .nodes) e
+
+  pub said-wires : s .wires ≡ wires-in b
+  said-wires = ap (λ (s : Header). s .wires) e
+
+-- ---- where the records stand
 
 module _ (b : List ℕ) (s : Header) (w : Whole b s) where
   pub units-said : s .units ≡ units-in b
-  units-said = ap (λ (s : Header). s .units) (w .said)
+  units-said = said-units b s (w .said)
 
   pub nodes-said : s .nodes ≡ nodes-in b
-  nodes-said = ap (λ (s : Header). s .nodes) (w .said)
+  nodes-said = said-nodes b s (w .said)
 
   pub wires-said : s .wires ≡ wires-in b
-  wires-said = ap (λ (s : Header). s .wires) (w .said)
+  wires-said = said-wires b s (w .said)
 
   long : length b ≡ place (wire-run sheet-format (s .units) (s .nodes) (s .wires)) (s .wires)
   long = w .long ∙ rw (units-said, nodes-said, wires-said) refl

@@ -7,11 +7,10 @@ use lib.Dec.{ltb, leb, eqb}
 use lib.ListN.{length}
 use Rattle.words.proofs.LoopLaws.{and-split}
 use Rattle.records.specs.Units.{last-op, kind-of, k-fits}
-use Rattle.records.specs.Slots.{Masked}
-use Rattle.records.specs.Feeding.{InputMasked}
+use Rattle.slots.specs.Slots.{Masked}
+use Rattle.slots.specs.Feeding.{InputMasked}
 use Rattle.records.proofs.ReadingLaws.{Counts, counts-split}
-use Rattle.records.proofs.NodeLaws.{NodeFits, node-split}
-use Rattle.records.proofs.FedLaws.{inputs-most}
+use Rattle.records.proofs.NodeLaws.{NodeFits, node-split, inputs-few}
 use Rattle.sheets.specs.declared.Sheet.{Sheet as Header}
 use Rattle.sheets.specs.Sheet.{unit-of, node-of, wire-of, sheet-of}
 use Rattle.sheets.specs.Answers.{input-of, Held}
@@ -44,4 +43,4 @@ module _ (b : List ℕ) (s : Header) (h : Held b s) where
       let f = wire-fit e l in
       let n = node-of (sheet-of b) (wire-of (sheet-of b) e .to) in
       let m = node-masked (wire-of (sheet-of b) e .to) (f .meets) in
-      record { on-unit = m .on-unit; in-turn = m .in-turn; one-of = omega (arith, f .input-fits, inputs-most (kind-of (n .op))) }
+      record { on-unit = m .on-unit; in-turn = m .in-turn; one-of = omega (arith, f .input-fits, inputs-few (kind-of (n .op))) }

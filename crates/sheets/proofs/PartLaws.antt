@@ -1,28 +1,26 @@
 -- A sheet's first fault is that of its parts in 01's order: the header; the length and the records; clashes and inputs. Assumes nothing.
-use mathlib.Core.Path.{_≡_, refl, sym, ap, subst⁻¹, _∙_}
+use mathlib.Core.Path.{_≡_, refl, sym, ap, _∙_}
 use mathlib.Core.Bool.{true}
 use mathlib.Core.List.{List}
 use Prim.Native.Nat.{ℕ, zero, suc, _^_, _<_}
 use native.Mathlib.Omega.{arith}
-use lib.Dec.{leb, eqb}
+use lib.Dec.{leb}
 use lib.ListN.{length}
-use borrow.Author.Tests.{eqb-true}
-use Rattle.words.specs.Loops.{first, unless, _then_}
-use Rattle.words.proofs.FaultLaws.{then-split, then-assoc, unless-true, first-at, first-cong}
-use Rattle.records.specs.declared.Unit.{Unit}
+use Rattle.words.specs.Loops.{unless, _then_}
+use Rattle.words.proofs.FaultLaws.{then-split, then-assoc, first-at}
 use Rattle.records.specs.declared.reading.Reason.{Reason}
 use Rattle.records.specs.declared.reading.Judged.the-variants as J
 use Rattle.records.specs.declared.reading.Run.{Run}
-use Rattle.records.specs.Units.{unit-fits}
-use Rattle.records.specs.Records.{fold-in, units-in, nodes-in, wires-in, counts-fit, unit-place, node-place, whole-length, node-at, record-fault, reading-fault, node-fits}
-use Rattle.records.specs.Answers.{answer, judged, unit-part, node-part, place, Inside, unit-run, node-run, wire-run, unit-fault, units-fault, node-fault, nodes-fault as nodes-run-fault, units-in-run, nodes-in-run, parts-fault}
+use Rattle.records.specs.Records.{fold-in, units-in, nodes-in, wires-in, counts-fit, record-fault, node-fits}
+use Rattle.records.specs.Answers.{answer, judged, unit-part, node-part, place, Inside, unit-run, node-run, wire-run, units-in-run, nodes-in-run, parts-fault, front-fault}
 use Rattle.records.proofs.ReadingLaws.{record-split, counts-split}
-use Rattle.records.proofs.NodeLaws.{node-fits-same}
-use Rattle.records.proofs.AnswerLaws.{units-inside, nodes-inside, refused-last, refused-first}
+use Rattle.records.proofs.AnswerLaws.{refused-last, refused-first}
+use Rattle.records.proofs.FrontLaws.{runs-inside, front-said, reading-parts, node-same, front-whole, front-nodes}
 use Rattle.sheets.specs.declared.Sheet.{Sheet as Header}
 use Rattle.sheets.specs.declared.judging.SheetRead.the-variants as S
 use Rattle.sheets.specs.Sheet.{unit-of, node-of, sheet-format, sheet-of, sheet-faults, sheet-fault}
-use Rattle.sheets.specs.Answers.{header-of, sheet-answer, head-fault, header-answer, wire-fault, wires-fault, front-fault, records-fault, nodes-fault, HeaderSaid, Whole, Held}
+use Rattle.sheets.specs.Answers.{header-of, sheet-answer, head-fault, header-answer, wire-fault, wires-fault, records-fault, nodes-fault, HeaderSaid, Whole, Held}
+use Rattle.sheets.proofs.HeldLaws.{said-fold, said-units, said-nodes, said-wires}
 use Rattle.sheets.proofs.SheetLaws.{fold-is, units-is, nodes-is, unit-read, node-read}
 
 -- ---- what the header says, put into the records' judging
@@ -32,44 +30,25 @@ module _ (b : List ℕ) (s : Header) (h : HeaderSaid b s) where
   pub whole-below : (r : Run) → r ≡ wire-run sheet-format (s .units) (s .nodes) (s .wires) → place r (r .count) < 2 ^ 64
   whole-below r e =
       let c = counts-split b (h .counts) in
-      let u = ap (λ (s : Header). s .units) (h .said) in
-      let n = ap (λ (s : Header). s .nodes) (h .said) in
-      let w = ap (λ (s : Header). s .wires) (h .said) in
-      rw e (omega (arith, c .units-most, c .nodes-most, c .wires-most))
+      rw e (omega (arith, c .units-most, c .nodes-most, c .wires-most, (said-units b s (h .said)), (said-nodes b s (h .said)), (said-wires b s (h .said))))
 
   module _
-      (whole : ℕ) (ws us ns : Run) (ew : ws ≡ wire-run sheet-format (s .units) (s .nodes) (s .wires)) (e : whole ≡ place ws (ws .count))
-      (eu : us ≡ unit-run sheet-format (s .units)) (en : ns ≡ node-run sheet-format (s .units) (s .nodes))
+      (whole : ℕ) (us ns ws : Run) (ws-is : ws ≡ wire-run sheet-format (s .units) (s .nodes) (s .wires)) (whole-is : whole ≡ place ws (ws .count))
+      (us-is : us ≡ unit-run sheet-format (s .units)) (ns-is : ns ≡ node-run sheet-format (s .units) (s .nodes))
     where
-      pub runs-inside : Inside unit-part us whole × Inside node-part ns whole
-      runs-inside =
-          rw (e, ew, eu, en)
-          (units-inside sheet-format (s .units) (s .nodes) (s .wires) unit-part (omega arith), nodes-inside sheet-format (s .units) (s .nodes) (s .wires) node-part (omega arith))
+      pub sheet-inside : Inside unit-part us whole × Inside node-part ns whole
+      sheet-inside =
+          runs-inside sheet-format b (s .fold) (s .units) (s .nodes) (s .wires) whole us ns ws (said-fold b s (h .said)) (said-units b s (h .said)) (said-nodes b s (h .said)) (said-wires b s (h .said)) ws-is whole-is us-is ns-is (omega arith)
+          (omega arith)
 
-      pub front-said : parts-fault b whole (s .fold) us ns ≡ front-fault b
-      unfolding front-fault
-      front-said =
-          rw (e, ew, eu, en)
-          (subst⁻¹
-          (λ (s : Header). parts-fault b (place (wire-run sheet-format (s .units) (s .nodes) (s .wires)) (s .wires)) (s .fold) (unit-run sheet-format (s .units))
-          (node-run sheet-format (s .units) (s .nodes))
-          ≡ parts-fault b (whole-length sheet-format b) (fold-in b) (unit-run sheet-format (units-in b)) (node-run sheet-format (units-in b) (nodes-in b))) (h .said) refl)
+      pub sheet-front : parts-fault b whole (s .fold) us ns ≡ front-fault sheet-format b
+      sheet-front =
+          front-said sheet-format b (s .fold) (s .units) (s .nodes) (s .wires) whole us ns ws (said-fold b s (h .said)) (said-units b s (h .said)) (said-nodes b s (h .said)) (said-wires b s (h .said)) ws-is whole-is us-is ns-is
 
-  pub whole-of : front-fault b ≡ 0 → Whole b s
-  unfolding front-fault
-  whole-of z =
-      let l = unless (eqb (length b) (whole-length sheet-format b)) 1 in
-      let us = units-fault b (unit-run sheet-format (units-in b)) in
-      let ns = nodes-run-fault b (fold-in b) (unit-run sheet-format (units-in b)) (node-run sheet-format (units-in b) (nodes-in b)) in
-      let t = then-split (l then us) ns z in
-      let u = then-split l us (t .0) in
-      record { said = h .said; long = eqb-true (length b) (whole-length sheet-format b) (unless-true _ 0 (u .0)) }
+  pub sheet-whole : front-fault sheet-format b ≡ 0 → Whole b s
+  sheet-whole z = record { said = h .said; long = front-whole sheet-format b z }
 
 -- ---- the parts, in 01's order
-
-regrouped : (a l u n e c d : ℕ) → (a then l then u then n then e then c then d) ≡ (a then (l then u then n then e then (c then d)))
-regrouped zero l u n e c d = then-assoc (l then u then n then e) c d
-regrouped (suc a) l u n e c d = refl
 
 head-first : (a rest : ℕ) (s : Header) (why : Reason) → answer (S.Got s) S.Refused a ≡ S.Refused why → answer (S.Got s) S.Refused (a then rest) ≡ S.Refused why
 head-first zero rest s why e = let z : _≡_ {A = ℕ} 0 1 = cc in absurd (omega arith)
@@ -79,31 +58,30 @@ pub head-none : (a : ℕ) (s t : Header) → answer (S.Got s) S.Refused a ≡ S.
 head-none zero s t e = (refl, cc)
 head-none (suc a) s t e = let z : _≡_ {A = ℕ} 0 1 = cc in absurd (omega arith)
 
+regrouped : (a r c d : ℕ) → (a then r then c then d) ≡ (a then (r then (c then d)))
+regrouped zero r c d = then-assoc r c d
+regrouped (suc a) r c d = refl
+
 module _ (b : List ℕ) where
-  units-same : first (units-in b) (λ i. record-fault b (unit-place sheet-format b i) (sheet-format .unit-mark) (unit-fits (unit-of (sheet-of b) i)))
-      ≡ units-fault b (unit-run sheet-format (units-in b))
-  unfolding unit-fault
-  units-same =
-      first-cong (units-in b) _ _
-      (λ i l. ap (λ (u : Unit). record-fault b (unit-place sheet-format b i) (sheet-format .unit-mark) (unit-fits u)) (unit-read b i (omega (arith, units-is b))))
-
-  node-same : (i : ℕ) → i < nodes-in b →
-      node-fits (sheet-of b .fold) (length (sheet-of b .units)) (unit-of (sheet-of b)) (node-of (sheet-of b) i)
-      ≡ node-fits (fold-in b) (units-in b) (units-in-run b (unit-run sheet-format (units-in b))) (nodes-in-run b (node-run sheet-format (units-in b) (nodes-in b)) i)
-  node-same i l =
-      rw (fold-is b, units-is b, node-read b i (omega (arith, nodes-is b)))
-      (node-fits-same (fold-in b) (units-in b) (unit-of (sheet-of b)) _ (node-at b (node-place sheet-format b i)) (λ q k. unit-read b q (omega (arith, units-is b))))
-
-  nodes-same : first (nodes-in b)
-      (λ i. record-fault b (node-place sheet-format b i) (sheet-format .node-mark)
-      (node-fits (sheet-of b .fold) (length (sheet-of b .units)) (unit-of (sheet-of b)) (node-of (sheet-of b) i)))
-      ≡ nodes-run-fault b (fold-in b) (unit-run sheet-format (units-in b)) (node-run sheet-format (units-in b) (nodes-in b))
-  unfolding node-fault
-  nodes-same = first-cong (nodes-in b) _ _ (λ i l. ap (record-fault b (node-place sheet-format b i) (sheet-format .node-mark)) (node-same i l))
+  -- the sheet's nodes fit as the bytes' do
+  pub node-fits-is : (x : ℕ) → x < nodes-in b →
+      node-fits (sheet-of b .fold) (length (sheet-of b .units)) (unit-of (sheet-of b)) (node-of (sheet-of b) x)
+      ≡ node-fits (fold-in b) (units-in b) (units-in-run b (unit-run sheet-format (units-in b))) (nodes-in-run b (node-run sheet-format (units-in b) (nodes-in b)) x)
+  node-fits-is x l =
+      rw (fold-is b, units-is b)
+      (node-same sheet-format b true (unit-of (sheet-of b)) (node-of (sheet-of b)) (λ _. true) (λ i k. unit-read b i (omega (arith, units-is b)))
+      (λ i k. node-read b i (omega (arith, nodes-is b))) x l)
 
   pub parts : sheet-fault b ≡ (head-fault b then (records-fault b then nodes-fault (sheet-of b)))
-  unfolding sheet-faults reading-fault wire-fault front-fault
-  parts = rw (units-same, nodes-same) (regrouped (head-fault b) (unless (eqb (length b) (whole-length sheet-format b)) 1) _ _ _ _ _)
+  unfolding sheet-faults wire-fault
+  parts =
+      rw (
+        fold-is b,
+        units-is b,
+        reading-parts sheet-format b (counts-fit b) (unit-of (sheet-of b)) (node-of (sheet-of b)) _ (λ i k. unit-read b i (omega (arith, units-is b)))
+            (λ i k. node-read b i (omega (arith, nodes-is b))),
+      )
+      (regrouped (head-fault b) (records-fault b) _ _)
 
   -- ---- the answer, part by part
 
@@ -144,15 +122,12 @@ module _ (b : List ℕ) where
 
   -- records without fault are held
   pub held : (s : Header) → HeaderSaid b s → records-fault b ≡ 0 → Held b s
-  unfolding front-fault wire-fault node-fault
+  unfolding wire-fault
   held s h y =
-      let t = then-split (front-fault b) (wires-fault b) y in
-      let us = unit-run sheet-format (units-in b) in
-      let ns = node-run sheet-format (units-in b) (nodes-in b) in
-      let u = then-split (unless (eqb (length b) (whole-length sheet-format b)) 1 then units-fault b us) (nodes-run-fault b (fold-in b) us ns) (t .0) in
+      let t = then-split (front-fault sheet-format b) (wires-fault b) y in
       record {
-        whole = whole-of b s h (t .0);
+        whole = sheet-whole b s h (t .0);
         counts = h .counts;
-        node-ok = λ x l. node-same x l ∙ record-split b _ (sheet-format .node-mark) _ (first-at (nodes-in b) (node-fault b (fold-in b) us ns) (u .1) x l) .1;
+        node-ok = λ x l. node-fits-is x l ∙ front-nodes sheet-format b (t .0) x l;
         wire-ok = λ e l. record-split b _ (sheet-format .wire-mark) _ (first-at (wires-in b) (wire-fault b) (t .1) e l) .1;
       }

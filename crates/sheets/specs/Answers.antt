@@ -7,9 +7,9 @@ use lib.ListN.{length}
 use Rattle.words.specs.Loops.{first, unless, _then_}
 use Rattle.records.specs.declared.reading.HeaderRead.{HeaderRead}
 use Rattle.records.specs.declared.reading.HeaderRead.the-variants as H
-use Rattle.records.specs.declared.feeding.Input.{Input}
+use Rattle.slots.specs.declared.feeding.Input.{Input}
 use Rattle.records.specs.Records.{fold-in, units-in, nodes-in, wires-in, counts-fit, wire-place, whole-length, record-fault, node-fits, clashes, fed-once}
-use Rattle.records.specs.Answers.{reason-number, answer, header-fault, unit-run, node-run, parts-fault}
+use Rattle.records.specs.Answers.{reason-number, answer, header-fault, front-fault}
 use Rattle.sheets.specs.declared.Sheet.{Sheet as Header}
 use Rattle.sheets.specs.declared.judging.SheetRead.{SheetRead}
 use Rattle.sheets.specs.declared.judging.SheetRead.the-variants as S
@@ -60,14 +60,9 @@ wire-answer b e = answer (W.Got (wire-of (sheet-of b) e)) W.Refused (wire-fault 
 abbrev pub wires-fault : List ℕ → ℕ
 wires-fault b = first (wires-in b) (wire-fault b)
 
--- the total length, the units and the nodes
-unfoldable pub front-fault : List ℕ → ℕ
-front-fault b =
-    parts-fault b (whole-length sheet-format b) (fold-in b) (unit-run sheet-format (units-in b)) (node-run sheet-format (units-in b) (nodes-in b))
-
 -- the total length and the records
 abbrev pub records-fault : List ℕ → ℕ
-records-fault b = front-fault b then wires-fault b
+records-fault b = front-fault sheet-format b then wires-fault b
 
 -- 4 and 5
 abbrev pub nodes-fault : Sheet → ℕ

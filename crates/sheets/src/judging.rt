@@ -2,8 +2,8 @@
 ghost use mathlib.Core.Path.{_≡_};
 ghost use Prim.Native.Nat.{_<_};
 ghost use Rattle.records.specs.Answers.{judged};
-ghost use Rattle.records.specs.Slots.{SlotsOf};
-ghost use Rattle.records.specs.Feeding.{FedOf};
+ghost use Rattle.slots.specs.Slots.{SlotsOf};
+ghost use Rattle.slots.specs.Feeding.{FedOf};
 ghost use Rattle.sheets.specs.Sheet.{sheet-of, node-of, wire-fits};
 ghost use Rattle.sheets.specs.Answers.{Whole, HeaderSaid, Held, sheet-read, header-answer, sheet-answer, wire-number, wire-answer, wires-fault, records-fault, input-of, nodes-fault};
 use crate::Sheet;
@@ -11,16 +11,16 @@ use crate::Wire;
 use crate::node_of;
 use crate::wire_of;
 use records::Unit;
-use records::feeding::Fed;
-use records::feeding::Input;
-use records::feeding::units_fed;
 use records::reading::HeaderRead;
 use records::reading::Judged;
 use records::reading::Reason;
 use records::reading::judge_parts;
 use records::reading::marked;
-use records::slots::Slots;
-use records::slots::slots_in;
+use slots::Slots;
+use slots::feeding::Fed;
+use slots::feeding::Input;
+use slots::feeding::units_fed;
+use slots::slots_in;
 use words::masks;
 
 // A sheet, or the reason of its first fault.
@@ -48,12 +48,7 @@ fn sheet_read(got: HeaderRead) -> SheetRead
 pub fn read_header(b: &[u8]) -> SheetRead
     ensures { λ r. ⌜ r ≡ header-answer (now (b .entry)) ⌝ }
 {
-    sheet_read(records::reading::read_header(
-        b,
-        Sheet::HEADER_LENGTH,
-        Sheet::MARK,
-        Sheet::HEADER_MARK,
-    ))
+    sheet_read(records::reading::read_header(b, Sheet::HEADER, Sheet::MARK, Sheet::HEADER_MARK))
 }
 
 // Whether a wire joins nodes, feeds an input that its node has, and has delays in their range.

@@ -34,13 +34,13 @@ impl Sheet {
 
     pub const WIRE_MARK: u8 = b'E';
     // Lengths of the records.
-    pub const HEADER_LENGTH: usize = 6;
+    pub const HEADER: usize = 6;
 
-    pub const UNIT_LENGTH: usize = 4;
+    pub const UNIT: usize = 4;
 
-    pub const NODE_LENGTH: usize = 7;
+    pub const NODE: usize = 7;
 
-    pub const WIRE_LENGTH: usize = 6;
+    pub const WIRE: usize = 6;
     // Limits.
     pub const MOST_FOLD: usize = Header::MOST_FOLD;
 
@@ -68,8 +68,8 @@ impl Sheet {
         ensures { λ r. ⌜ r ≡ unit-run sheet-format (self .units) ⌝ }
     {
         Run {
-            at: Self::HEADER_LENGTH,
-            size: Self::UNIT_LENGTH,
+            at: Self::HEADER,
+            size: Self::UNIT,
             count: self.units as usize,
             first: Self::MARK,
             second: Self::UNIT_MARK,
@@ -80,8 +80,8 @@ impl Sheet {
         ensures { λ r. ⌜ r ≡ node-run sheet-format (self .units) (self .nodes) ⌝ }
     {
         Run {
-            at: Self::HEADER_LENGTH + Self::UNIT_LENGTH * self.units as usize,
-            size: Self::NODE_LENGTH,
+            at: Self::HEADER + Self::UNIT * self.units as usize,
+            size: Self::NODE,
             count: self.nodes as usize,
             first: Self::MARK,
             second: Self::NODE_MARK,
@@ -92,10 +92,8 @@ impl Sheet {
         ensures { λ r. ⌜ r ≡ wire-run sheet-format (self .units) (self .nodes) (self .wires) ⌝ }
     {
         Run {
-            at: Self::HEADER_LENGTH
-                + Self::UNIT_LENGTH * self.units as usize
-                + Self::NODE_LENGTH * self.nodes as usize,
-            size: Self::WIRE_LENGTH,
+            at: Self::HEADER + Self::UNIT * self.units as usize + Self::NODE * self.nodes as usize,
+            size: Self::WIRE,
             count: self.wires as usize,
             first: Self::MARK,
             second: Self::WIRE_MARK,

@@ -7,7 +7,7 @@ use mir.Val.{SFits}
 use mir.ValLaws.{toZ-ofZ}
 use borrow.Author.Needs.{needs}
 use borrow.Author.Tests.{eq-eqb, ne-eqb}
-use Rattle.records.proofs.SlotLaws.{port-k}
+use Rattle.records.proofs.NodeLaws.{port-k}
 use Rattle.records.proofs.Node.channel.Statement.{statement}
 use Rattle.records.proofs.Node.channel.Tie as tie
 

@@ -3,9 +3,9 @@ use Prim.Native.Nat.{_<_, _≤_, _-_}
 use mathlib.Core.Path.{_≡_, refl, subst⁻¹}
 use native.Mathlib.Omega.{arith}
 use borrow.Author.Needs.{needs}
-use Rattle.records.specs.Feeding.{InputMasked}
-use Rattle.records.proofs.TableLaws.{empty-at}
-use Rattle.records.proofs.FeedingLaws.{Feeding, feeding-none, feeding-next, feeding-fed}
+use Rattle.slots.specs.Feeding.{InputMasked}
+use Rattle.slots.proofs.TableLaws.{empty-at}
+use Rattle.slots.proofs.FeedingLaws.{Feeding, feeding-none, feeding-next, feeding-fed}
 use Rattle.sheets.specs.Sheet.{sheet-of}
 use Rattle.sheets.specs.Answers.{input-of}
 use Rattle.sheets.proofs.SheetLaws.{wires-is}

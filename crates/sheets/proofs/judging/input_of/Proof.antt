@@ -3,7 +3,7 @@ use mathlib.Core.Path.{ap, ap₂, subst⁻¹, _∙_}
 use Prim.Native.Nat.{_<_}
 use native.Mathlib.Omega.{arith}
 use Rattle.records.specs.declared.Node.{Node}
-use Rattle.records.specs.declared.feeding.Input.{Input}
+use Rattle.slots.specs.declared.feeding.Input.{Input}
 use Rattle.sheets.specs.declared.Wire.{Wire}
 use Rattle.sheets.specs.Sheet.{sheet-of, node-of}
 use Rattle.sheets.proofs.SheetLaws.{nodes-is, wires-is}

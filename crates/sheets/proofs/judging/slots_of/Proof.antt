@@ -4,8 +4,8 @@ use Prim.Native.Nat.{ℕ, _<_}
 use native.Mathlib.Omega.{arith}
 use Rattle.records.specs.declared.reading.Run.{Run}
 use Rattle.records.specs.Answers.{nodes-in-run}
-use Rattle.records.specs.Slots.{Masked, SlotsOf}
-use Rattle.records.proofs.SlotLaws.{slots-same}
+use Rattle.slots.specs.Slots.{Masked, SlotsOf}
+use Rattle.slots.proofs.SlotLaws.{slots-same}
 use Rattle.sheets.proofs.SheetLaws.{nodes-is}
 use Rattle.sheets.proofs.HeldLaws.{nodes-said, node-room, node-got}
 use Rattle.sheets.proofs.MaskedLaws.{node-masked}

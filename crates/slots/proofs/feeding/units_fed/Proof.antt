@@ -1,4 +1,4 @@
--- `records::feeding::units_fed` meets its contract: the units passed are fed. Assumes nothing.
+-- `slots::feeding::units_fed` meets its contract: the units passed are fed. Assumes nothing.
 use mathlib.Core.Path.{_≡_, sym, ap, _∙_}
 use mathlib.Core.Bool.{true}
 use Prim.Native.Nat.{_+_, _*_, _≤_, _-_}
@@ -6,13 +6,13 @@ use native.Mathlib.Omega.{arith}
 use lib.ListN.{getD}
 use borrow.Author.Needs.{needs}
 use borrow.Author.Tests.{not-true, not-false}
 use Rattle.records.specs.declared.Unit.{Unit}
 use Rattle.records.specs.Answers.{unit-part, units-in-run}
-use Rattle.records.specs.Feeding.{most-inputs, unit-fed, units-fed}
+use Rattle.slots.specs.Feeding.{most-inputs, unit-fed, units-fed}
 use Rattle.records.proofs.AnswerLaws.{in-run}
-use Rattle.records.proofs.FeedingLaws.{units-none, units-more, units-stop}
-use Rattle.records.proofs.feeding.units_fed.Statement.{statement}
-use Rattle.records.proofs.feeding.units_fed.Tie as tie
+use Rattle.slots.proofs.FeedingLaws.{units-none, units-more, units-stop}
+use Rattle.slots.proofs.feeding.units_fed.Statement.{statement}
+use Rattle.slots.proofs.feeding.units_fed.Tie as tie
 
 abbrev Inv-loop : tie.InvT-loop
 Inv-loop b units occupied masks q₀ q = (q ≤ units .count) × (units-fed q (units-in-run b units) occupied masks ≡ true)

@@ -1,7 +1,7 @@
--- `records::feeding::unit_fed` meets its contract: its tests are the definition's. Assumes nothing.
+-- `slots::feeding::unit_fed` meets its contract: its tests are the definition's. Assumes nothing.
 use borrow.Author.Needs.{needs}
-use Rattle.records.proofs.feeding.unit_fed.Statement.{statement}
-use Rattle.records.proofs.feeding.unit_fed.Tie as tie
+use Rattle.slots.proofs.feeding.unit_fed.Statement.{statement}
+use Rattle.slots.proofs.feeding.unit_fed.Tie as tie
 
 inputs-requires : tie.Need-inputs-requires
 inputs-requires c κs = search needs

@@ -1,13 +1,13 @@
--- `records::slots::has_channel` meets its contract: the channel of a port is looked up in the mask. Assumes nothing.
+-- `slots::has_channel` meets its contract: the channel of a port is looked up in the mask. Assumes nothing.
 use mathlib.Core.Path.{ap, _∙_}
 use mathlib.Core.Bool.{Bool, _&&_}
 use native.Mathlib.Omega.{arith}
 use lib.Dec.{eqb}
 use borrow.Author.Needs.{needs}
 use Rattle.words.specs.Masks.{in-mask}
-use Rattle.records.proofs.SlotLaws.{channel-below}
-use Rattle.records.proofs.slots.has_channel.Statement.{statement}
-use Rattle.records.proofs.slots.has_channel.Tie as tie
+use Rattle.records.proofs.NodeLaws.{channel-below}
+use Rattle.slots.proofs.has_channel.Statement.{statement}
+use Rattle.slots.proofs.has_channel.Tie as tie
 
 channel-requires : tie.Need-channel-requires
 channel-requires c κs = search needs

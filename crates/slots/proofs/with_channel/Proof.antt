@@ -1,12 +1,12 @@
--- `records::slots::with_channel` meets its contract: the channel of a port is put into the mask. Assumes nothing.
+-- `slots::with_channel` meets its contract: the channel of a port is put into the mask. Assumes nothing.
 use mathlib.Core.Path.{ap, _∙_}
 use native.Mathlib.Omega.{arith}
 use borrow.Author.Needs.{needs}
 use borrow.Author.Tests.{eq-eqb, ne-eqb}
 use Rattle.words.specs.Masks.{with-slot}
-use Rattle.records.proofs.SlotLaws.{channel-below}
-use Rattle.records.proofs.slots.with_channel.Statement.{statement}
-use Rattle.records.proofs.slots.with_channel.Tie as tie
+use Rattle.records.proofs.NodeLaws.{channel-below}
+use Rattle.slots.proofs.with_channel.Statement.{statement}
+use Rattle.slots.proofs.with_channel.Tie as tie
 
 channel-requires : tie.Need-channel-requires
 channel-requires c κs = search needs

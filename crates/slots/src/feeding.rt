@@ -3,13 +3,13 @@
 ghost use mathlib.Core.Path.{_≡_};
 ghost use Prim.Native.Nat.{_<_, _≤_};
 ghost use lib.ListN.{length};
 ghost use Rattle.records.specs.Records.{most-units};
 ghost use Rattle.records.specs.Answers.{unit-part, units-in-run, Inside};
-ghost use Rattle.records.specs.Feeding.{most-inputs, mask-of, unit-fed, units-fed};
-use crate::Unit;
-use crate::reading::Header;
-use crate::reading::Run;
-use crate::reading::unit_in;
+ghost use Rattle.slots.specs.Feeding.{most-inputs, mask-of, unit-fed, units-fed};
+use records::Unit;
+use records::reading::Header;
+use records::reading::Run;
+use records::reading::unit_in;
 
 // An input of the node on a unit in a slot.
 pub struct Input {

@@ -12,11 +12,11 @@ use borrow.Author.Tests.{eqb-true, eq-eqb}
 use Rattle.words.specs.Loops.{every, some-of}
 use Rattle.words.specs.Masks.{in-mask, with-slot}
 use Rattle.words.proofs.LoopLaws.{bool-ext, and-split, and-join, every-more, every-stop, some-of-cong}
 use Rattle.records.specs.declared.Unit.{Unit}
-use Rattle.records.specs.declared.feeding.Input.{Input}
+use Rattle.slots.specs.declared.feeding.Input.{Input}
 use Rattle.records.specs.Records.{most-units}
-use Rattle.records.specs.Feeding.{most-inputs, InputMasked, mask-of, feeds-in, same-input, FedOf, unit-fed, units-fed}
-use Rattle.records.proofs.TableLaws.{Filled, filled-none, filled-met, filled-on}
+use Rattle.slots.specs.Feeding.{most-inputs, InputMasked, mask-of, feeds-in, same-input, FedOf, unit-fed, units-fed}
+use Rattle.slots.proofs.TableLaws.{Filled, filled-none, filled-met, filled-on}
 
 -- ---- a loop over the units
 

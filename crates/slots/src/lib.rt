@@ -1,19 +1,22 @@
-// A unit's occupied slots as one mask, filled node by node; clashes are found by the masks.
+// Occupied slots and inputs fed, as masks, for sheets and plans. A unit's occupied slots are one mask, filled node by node;
+// clashes are found by the masks.
 ghost use mathlib.Core.Path.{_≡_};
 ghost use mathlib.Core.Bool.{cond, _&&_};
 ghost use Prim.Native.Nat.{ℕ, _<_};
 ghost use lib.Dec.{eqb};
 ghost use lib.ListN.{length};
 ghost use Rattle.words.specs.Masks.{in-mask, with-slot};
 ghost use Rattle.records.specs.Units.{op-port};
-ghost use Rattle.records.specs.Answers.{node-part, nodes-in-run, Inside};
-ghost use Rattle.records.specs.Slots.{Masked, channel-of, SlotsOf};
-use crate::Node;
-use crate::Unit;
-use crate::reading::Header;
-use crate::reading::Run;
-use crate::reading::node_in;
+ghost use Rattle.records.specs.Answers.{node-part, nodes-in-run, Inside, channel-of};
+ghost use Rattle.slots.specs.Slots.{Masked, SlotsOf};
+use records::Node;
+use records::Unit;
+use records::reading::Header;
+use records::reading::Run;
+use records::reading::node_in;
 use words::masks;
+
+pub mod feeding;
 
 // The masks of the units' occupied slots, and whether two nodes clash.
 pub struct Slots {

@@ -1,15 +1,15 @@
--- `records::slots::slots_in` meets its contract: the masks hold the nodes passed. Assumes nothing.
+-- `slots::slots_in` meets its contract: the masks hold the nodes passed. Assumes nothing.
 use mathlib.Core.Path.{_≡_, refl, subst⁻¹}
 use Prim.Native.Nat.{_≤_, _-_}
 use native.Mathlib.Omega.{arith}
 use borrow.Author.Needs.{needs}
 use Rattle.records.specs.Answers.{node-part, nodes-in-run}
-use Rattle.records.specs.Slots.{Masked}
+use Rattle.slots.specs.Slots.{Masked}
 use Rattle.records.proofs.AnswerLaws.{in-run}
-use Rattle.records.proofs.SlotLaws.{Taken, taken-none, taken-next, taken-slots}
-use Rattle.records.proofs.TableLaws.{empty-at}
-use Rattle.records.proofs.slots.slots_in.Statement.{statement}
-use Rattle.records.proofs.slots.slots_in.Tie as tie
+use Rattle.slots.proofs.SlotLaws.{Taken, taken-none, taken-next, taken-slots}
+use Rattle.slots.proofs.TableLaws.{empty-at}
+use Rattle.slots.proofs.slots_in.Statement.{statement}
+use Rattle.slots.proofs.slots_in.Tie as tie
 
 abbrev Inv-loop : tie.InvT-loop
 Inv-loop b nodes clash₀ occupied₀ channels₀ x₀ clash occupied channels x = (x ≤ nodes .count) × Taken (nodes-in-run b nodes) x clash occupied channels

@@ -1,44 +1,28 @@
 -- Nodes taken into the masks one by one: their clashes are found, and the ones of a unit's mask are its occupied slots. Assumes nothing.
 use mathlib.Core.Path.{_≡_, refl, sym, ap, ap₂, subst⁻¹, _∙_}
-use mathlib.Core.Bool.{Bool, true, false, cond, _&&_, _||_, true≢false, and-false, or-assoc}
+use mathlib.Core.Bool.{Bool, true, false, cond, _&&_, _||_, and-false, or-assoc}
 use mathlib.Core.List.{List, [], _∷_}
 use Prim.Native.Nat.{ℕ, _+_, _<_, _≤_}
 use native.Mathlib.Numerals.{add-one}
 use native.Mathlib.Omega.{arith}
 use lib.Count.{ones}
-use lib.Dec.{leb, eqb}
-use lib.IntN.{ℤ, pos, negsuc, natAbs}
+use lib.Dec.{eqb}
+use lib.IntN.{natAbs}
 use lib.ListN.{length, getD, set, length-set}
-use borrow.Author.Tests.{leb-true, eqb-true, ne-eqb}
+use borrow.Author.Tests.{eqb-true, ne-eqb}
 use Rattle.words.specs.Loops.{some-of}
 use Rattle.words.specs.Masks.{in-mask, with-slot}
-use Rattle.words.proofs.LoopLaws.{and-split, some-none, some-or, some-of-cong}
+use Rattle.words.proofs.LoopLaws.{some-none, some-or, some-of-cong}
 use Rattle.words.proofs.CountLaws.{count-short}
 use Rattle.words.proofs.MaskLaws.{ones-are}
 use Rattle.records.specs.declared.Node.{Node}
-use Rattle.records.specs.declared.slots.Slots.{Slots}
-use Rattle.records.specs.Units.{op-port, channels, k-fits}
+use Rattle.slots.specs.declared.Slots.{Slots}
+use Rattle.records.specs.Units.{op-port}
+use Rattle.records.specs.Answers.{channel-of}
+use Rattle.records.proofs.NodeLaws.{port-k}
 use Rattle.records.specs.Records.{most-fold, most-units, clash, clashes, runs-in, occupied}
-use Rattle.records.specs.Slots.{Masked, channel-of, SlotsOf}
-use Rattle.records.proofs.TableLaws.{empty-at, Filled, filled-none, filled-met, filled-on, filled-off}
-
--- ---- channels
-
--- the K of a port is its channel
-pub port-k : (op : ℕ) (k : ℤ) → op ≡ op-port → k-fits op k ≡ true → (c : ℕ) × (k ≡ pos c) × (c < channels)
-port-k op (pos c) e h =
-    let f : k-fits op-port (pos c) ≡ true = rw e at h in
-    (c, refl, omega (arith, leb-true c 15 (and-split (leb 0 c) (leb c 15) f .1)))
-port-k op (negsuc c) e h =
-    let f : false ≡ true = rw e at h in
-    absurd (true≢false (sym f))
-
-pub channel-below : (n : Node) → k-fits (n .op) (n .k) ≡ true → channel-of n < channels
-channel-below n h = by-op (eqb (n .op) op-port) refl
-  where
-    by-op : (port : Bool) → eqb (n .op) op-port ≡ port → channel-of n < channels
-    by-op true e = let c = port-k (n .op) (n .k) (eqb-true (n .op) op-port e) h in rw (e, c .1) (c .2)
-    by-op false e = rw e (omega arith)
+use Rattle.slots.specs.Slots.{Masked, SlotsOf}
+use Rattle.slots.proofs.TableLaws.{empty-at, Filled, filled-none, filled-met, filled-on, filled-off}
 
 -- ---- nodes taken one by one
 

@@ -1,26 +1,20 @@
--- Occupied slots as masks, "clashes found by masks", and inputs fed as masks. Assumes nothing.
+-- "A unit's occupied slots are one u32 mask; its ones are counted for the idle figure, clashes found by masks." Assumes nothing.
 use mathlib.Core.Path.{_≡_}
-use mathlib.Core.Bool.{true, cond}
+use mathlib.Core.Bool.{true}
 use Prim.Native.Nat.{ℕ, _^_, _<_}
-use lib.Dec.{eqb}
 use lib.ListN.{getD}
-use lib.IntN.{natAbs}
 use Rattle.words.specs.Loops.{some-of}
 use Rattle.words.specs.Masks.{in-mask}
 use Rattle.records.specs.declared.Node.{Node}
-use Rattle.records.specs.declared.slots.Slots.{Slots}
-use Rattle.records.specs.Units.{op-port, k-fits}
+use Rattle.slots.specs.declared.Slots.{Slots}
+use Rattle.records.specs.Units.{k-fits}
 use Rattle.records.specs.Records.{most-fold, most-units, clashes, runs-in}
 
 -- a node that the masks have room for, as every node in its ranges is
 pub record Masked (n : Node) : Type 0 where
   pub on-unit : n .unit < most-units
   pub in-turn : n .slot < most-fold
   pub of-op : k-fits (n .op) (n .k) ≡ true
-
--- a port's channel, and 0 for any other node
-abbrev pub channel-of : Node → ℕ
-channel-of n = cond (eqb (n .op) op-port) (natAbs (n .k)) 0
 
 -- what the masks say of n nodes of which number x is `node x`: whether two clash, and bit v of mask q that one runs on unit q in slot v
 pub record SlotsOf (n : ℕ) (node : ℕ → Node) (s : Slots) : Type 0 where

@@ -2,7 +2,7 @@
 use mathlib.Core.Path.{_≡_, refl, sym, ap, _∙_}
 use mathlib.Core.Logic.{inl, inr}
 use mathlib.Core.Bool.{Bool, true, false, not, _&&_, _||_, true≢false}
-use Prim.Native.Nat.{ℕ, zero, suc, _+_, _*_, _<_, _≤_}
+use Prim.Native.Nat.{ℕ, zero, suc, _+_, _*_, _<_}
 use native.Mathlib.Nat.{add-zero}
 use native.Mathlib.Decide.{ℕ-discrete}
 use native.Mathlib.Omega.{arith}
@@ -15,24 +15,16 @@ use Rattle.words.proofs.LoopLaws.{passed?, bool-ext, and-split, and-join, every
 use Rattle.words.proofs.CountLaws.{some-found, count-one, count-two, count-found}
 use Rattle.words.proofs.FaultLaws.{none-of}
 use Rattle.words.proofs.MaskLaws.{mask-same}
 use Rattle.records.specs.declared.Unit.{Unit}
 use Rattle.records.specs.declared.Node.{Node}
-use Rattle.records.specs.declared.slots.Slots.{Slots}
-use Rattle.records.specs.declared.feeding.Input.{Input}
-use Rattle.records.specs.declared.feeding.Fed.{Fed}
-use Rattle.records.specs.Units.{port, adder, kind-of, inputs, inputs-of}
+use Rattle.slots.specs.declared.Slots.{Slots}
+use Rattle.slots.specs.declared.feeding.Input.{Input}
+use Rattle.slots.specs.declared.feeding.Fed.{Fed}
+use Rattle.records.specs.Units.{kind-of, inputs, inputs-of}
 use Rattle.records.specs.Records.{runs-in, fed-once}
-use Rattle.records.specs.Slots.{SlotsOf}
-use Rattle.records.specs.Feeding.{most-inputs, mask-of, feeds-in, FedOf, unit-fed, units-fed}
-
--- no kind has more inputs than two
-pub inputs-most : (kind : ℕ) → inputs kind ≤ most-inputs
-inputs-most kind = by-kind (eqb kind port) (eqb kind adder) refl refl
-  where
-    by-kind : (a b : Bool) → eqb kind port ≡ a → eqb kind adder ≡ b → inputs kind ≤ most-inputs
-    by-kind true b e f = rw e (omega arith)
-    by-kind false true e f = rw (e, f) (omega arith)
-    by-kind false false e f = rw (e, f) (omega arith)
+use Rattle.slots.specs.Slots.{SlotsOf}
+use Rattle.slots.specs.Feeding.{most-inputs, mask-of, feeds-in, FedOf, unit-fed, units-fed}
+use Rattle.records.proofs.NodeLaws.{inputs-few}
 
 -- ---- a unit's test, input by input
 
@@ -93,7 +85,7 @@ module _
       same-mask q l zero h =
           ap (λ (k : ℕ). getD (f .masks) k 0) (add-zero (most-inputs * q)) ∙ fed-first (unit q .kind) _ _ _ (every-at units _ test q l) h
       same-mask q l (suc zero) h = fed-second (unit q .kind) _ _ _ (every-at units _ test q l) h
-      same-mask q l (suc (suc i)) h = absurd (let m = inputs-most (unit q .kind) in omega arith)
+      same-mask q l (suc (suc i)) h = absurd (let m = inputs-few (unit q .kind) in omega arith)
 
       -- no two feed one input
       apart : (x i d e : ℕ) → x < n → d < e → e < w → feeds x i d ≡ true → feeds x i e ≡ true → ⊥
@@ -109,7 +101,7 @@ module _
           let q = node x .unit in
           let v = node x .slot in
           let k = inputs-is x q hx refl in
-          let m = inputs-most (kind-of (node x .op)) in
+          let m = inputs-few (kind-of (node x .op)) in
           let runs : runs-in q v (node x) ≡ true = and-join _ _ (eq-eqb q q refl) (eq-eqb v v refl) in
           let bit : some-of w (λ e. feeds-in q v i (to e)) ≡ true =
           sym (fed .fed q v i (omega arith)) ∙ ap (λ (m : ℕ). in-mask m v) (same-mask q (on-unit x hx) i (omega arith)) ∙ slots .taken q v
@@ -136,7 +128,7 @@ module _
       one x hx i h = eqb-true (count w (feeds x i)) 1 (every-at (inputs-of (node x .op)) _ (every-at n _ rule x hx) i h)
 
       input-most : (e : ℕ) → e < w → to e .input < most-inputs
-      input-most e l = let m = meets e l in let k = inputs-most (kind-of (node (m .0) .op)) in omega (arith, m .4)
+      input-most e l = let m = meets e l in let k = inputs-few (kind-of (node (m .0) .op)) in omega (arith, m .4)
 
       twice-not : f .twice ≡ false
       twice-not = elim (passed? (f .twice)) [
@@ -180,7 +172,7 @@ module _
       filled : (q i : ℕ) → i < inputs (unit q .kind) → mask q i ≡ occ q
       unfolding mask occ
       filled q i h =
-          let m = inputs-most (unit q .kind) in
+          let m = inputs-few (unit q .kind) in
           mask-same 32 _ _ (fed .small (most-inputs * q + i)) (slots .small q) (λ v l. fed .fed q v i (omega arith) ∙ bits q v i h ∙ sym (slots .taken q v))
 
       test : units-fed units unit (s .occupied) (f .masks) ≡ true

@@ -7,11 +7,11 @@ use lib.Dec.{leb, eqb}
 use lib.ListN.{getD}
 use Rattle.words.specs.Loops.{every, some-of}
 use Rattle.words.specs.Masks.{in-mask}
 use Rattle.records.specs.declared.Unit.{Unit}
-use Rattle.records.specs.declared.feeding.Input.{Input}
-use Rattle.records.specs.declared.feeding.Fed.{Fed}
+use Rattle.slots.specs.declared.feeding.Input.{Input}
+use Rattle.slots.specs.declared.feeding.Fed.{Fed}
 use Rattle.records.specs.Units.{inputs}
 use Rattle.records.specs.Records.{most-fold, most-units}
 
 -- column inputs: 2 at most
 abbrev pub most-inputs : ℕ

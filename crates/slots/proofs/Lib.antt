@@ -1,0 +1,5 @@
+-- Laws.
+pub mod TableLaws
+pub mod SlotLaws
+pub mod FeedingLaws
+pub mod FedLaws
