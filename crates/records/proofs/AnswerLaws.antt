@@ -4,8 +4,7 @@ use mathlib.Core.List.{List}
 use Prim.Native.Nat.{ℕ, zero, suc, _+_, _*_, _<_, _≤_}
 use native.Mathlib.Nat.{mul-le-mul-left}
 use native.Mathlib.Omega.{arith}
-use lib.ListN.{length}
-use Rattle.words.specs.Loops.{first}
+use Rattle.words.specs.Loops.{first, _then_}
 use Rattle.words.proofs.FaultLaws.{first-hit}
 use Rattle.records.specs.declared.reading.Reason.{Reason}
 use Rattle.records.specs.declared.reading.Reason.the-variants.{Length, Mark, Range, Clash, Unfed, Figures}
@@ -56,6 +55,17 @@ pub number-answer : {A : Type 0} (number : A → ℕ) (got : A) (refused : Reaso
 number-answer number got refused g r zero k = g
 number-answer number got refused g r (suc n) k = r (reason-of (suc n)) ∙ reason-back (suc n) (omega arith) k
 
+-- ---- judging part by part
+
+pub passed-none : (f : ℕ) → judged f ≡ J.Passed → f ≡ 0
+passed-none zero e = refl
+passed-none (suc n) e = let z : _≡_ {A = ℕ} 0 1 = cc in absurd (omega arith)
+
+-- a part that is refused decides
+pub refused-first : {A : Type 0} (got : A) (refused : Reason → A) (a b : ℕ) (why : Reason) → judged a ≡ J.Refused why → answer got refused (a then b) ≡ refused why
+refused-first got refused zero b why e = let z : _≡_ {A = ℕ} 0 1 = cc in absurd (omega arith)
+refused-first got refused (suc n) b why e = let r : reason-of (suc n) ≡ why = cc in ap refused r
+
 -- the number of a reader's answer is its record's fault
 pub unit-told : (b : List ℕ) (r : Run) (i : ℕ) (a : UnitRead) → a ≡ unit-answer b r i → unit-number a ≡ unit-fault b r i
 unfolding unit-fault
@@ -76,7 +86,7 @@ pub run-refused : (n i : ℕ) (f : ℕ → ℕ) (why : Reason) → i < n → fir
 run-refused n i f why l h e = ap judged (sym (first-hit n i f l h (let p = reason-positive why in omega arith)))
 
 -- a record of a run lies in the bytes
-pub in-run : (n : ℕ) (r : Run) (b : List ℕ) (i : ℕ) → Inside n r b → i < r .count → place r i + n ≤ length b
-in-run n r b i h l =
+pub in-run : (n : ℕ) (r : Run) (whole i : ℕ) → Inside n r whole → i < r .count → place r i + n ≤ whole
+in-run n r whole i h l =
     let m : r .size * suc i ≤ r .size * r .count = mul-le-mul-left (r .size) l in
     omega (arith, h .wide, h .ends)

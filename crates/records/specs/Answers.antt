@@ -20,7 +20,7 @@ use Rattle.records.specs.declared.reading.NodeRead.{NodeRead}
 use Rattle.records.specs.declared.reading.NodeRead.the-variants as N
 use Rattle.records.specs.declared.reading.Run.{Run}
 use Rattle.records.specs.Units.{unit-fits}
-use Rattle.records.specs.Records.{fold-in, units-in, nodes-in, wires-in, most-fold, most-units, most-nodes, most-wires, between, counts-fit, unit-at, node-at, record-fault, node-fits}
+use Rattle.records.specs.Records.{at, Format, fold-in, units-in, nodes-in, wires-in, most-fold, most-units, most-nodes, most-wires, between, counts-fit, unit-at, node-at, record-fault, node-fits}
 
 -- ---- "Each call ends in its result or one numbered refusal": reasons and 01's numbers
 
@@ -45,7 +45,10 @@ answer got refused (suc n) = refused (reason-of (suc n))
 abbrev pub judged : ℕ → Judged
 judged = answer J.Passed J.Refused
 
--- ---- the bytes of a header, a unit and a node that sheets and plans share
+-- ---- the bytes of a mark, a header, a unit and a node that sheets and plans share
+
+abbrev pub mark-part : ℕ
+mark-part = 2
 
 abbrev pub header-part : ℕ
 header-part = 6
@@ -80,10 +83,24 @@ place r i = r .at + r .size * i
 abbrev pub mark-of : Run → List ℕ
 mark-of r = r .first ∷ r .second ∷ []
 
--- the run lies in the bytes, n bytes at least to each record
-pub record Inside (n : ℕ) (r : Run) (b : List ℕ) : Type 0 where
+-- the run of c records of n bytes each with the mark m, from place o on
+abbrev pub run-at : ℕ → ℕ → ℕ → List ℕ → Run
+run-at o n c m = record { at = o; size = n; count = c; first = at m 0; second = at m 1 }
+
+-- "Order: header, units, nodes, wires"
+abbrev pub unit-run : Format → ℕ → Run
+unit-run f u = run-at (f .header-length) (f .unit-length) u (f .unit-mark)
+
+abbrev pub node-run : Format → ℕ → ℕ → Run
+node-run f u n = run-at (f .header-length + f .unit-length * u) (f .node-length) n (f .node-mark)
+
+abbrev pub wire-run : Format → ℕ → ℕ → ℕ → Run
+wire-run f u n w = run-at (f .header-length + f .unit-length * u + f .node-length * n) (f .wire-length) w (f .wire-mark)
+
+-- the run ends in a length, n bytes at least to each record
+pub record Inside (n : ℕ) (r : Run) (whole : ℕ) : Type 0 where
   pub wide : n ≤ r .size
-  pub ends : place r (r .count) ≤ length b
+  pub ends : place r (r .count) ≤ whole
 
 abbrev pub units-in-run : List ℕ → Run → ℕ → Unit
 units-in-run b r q = unit-at b (place r q)
@@ -118,3 +135,7 @@ node-answer b fold us r i = answer (N.Got (nodes-in-run b r i)) N.Refused (node-
 
 abbrev pub nodes-fault : List ℕ → ℕ → Run → Run → ℕ
 nodes-fault b fold us r = first (r .count) (node-fault b fold us r)
+
+-- "then total length; then each record in file order": up to the nodes, of bytes that should be so long
+abbrev pub parts-fault : List ℕ → ℕ → ℕ → Run → Run → ℕ
+parts-fault b whole fold us r = unless (eqb (length b) whole) 1 then units-fault b us then nodes-fault b fold us r

@@ -2,3 +2,5 @@
 pub mod Units
 pub mod Records
 pub mod Answers
+pub mod Slots
+pub mod Feeding

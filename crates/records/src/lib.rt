@@ -1,8 +1,12 @@
 // What sheets and plans share: units and ops with their limits, a node's own fields, and below it the reading of their records.
 ghost use mathlib.Core.Path.{_≡_};
+ghost use mathlib.Core.Bool.{true};
 ghost use Rattle.records.specs.Units.{kind-of, inputs, k-least, k-most, k-fits, unit-fits, value};
+ghost use Rattle.records.specs.Slots.{channel-of};
 
+pub mod feeding;
 pub mod reading;
+pub mod slots;
 
 // A unit: its kind and its pipeline depth.
 pub struct Unit {
@@ -27,6 +31,8 @@ impl Unit {
     pub const OP_SCALE: u8 = 3;
 
     pub const LAST_OP: u8 = Self::OP_SCALE;
+
+    pub const MOST_INPUTS: usize = 2;
     // Depths.
     pub const LEAST_DEPTH: u8 = 1;
 
@@ -125,6 +131,18 @@ impl Node {
         ensures { λ r. ⌜ r ≡ record { unit = unit; slot = slot; op = op; k = k } ⌝ }
     {
         Self { unit, slot, op, k }
+    }
+
+    // A port's channel, and 0 for any other node.
+    pub fn channel(self) -> u8
+        requires { ⌜ k-fits (self .op) (self .k) ≡ true ⌝ }
+        ensures { λ r. ⌜ r ≡ channel-of self ⌝ }
+    {
+        if self.op == Unit::OP_PORT {
+            self.k as u8
+        } else {
+            0
+        }
     }
 }
 

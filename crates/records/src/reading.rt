@@ -4,8 +4,8 @@ ghost use mathlib.Core.Path.{_≡_};
 ghost use mathlib.Core.List.{[], _∷_};
 ghost use Prim.Native.Nat.{_+_, _^_, _<_, _≤_};
 ghost use lib.ListN.{length};
-ghost use Rattle.records.specs.Records.{two, between, marked, unit-at, node-at, node-fits};
-ghost use Rattle.records.specs.Answers.{judged, header-part, unit-part, node-part, header-in, header-fits, header-answer, place, units-in-run, Inside, unit-number, unit-answer, units-fault, node-number, node-answer, nodes-fault};
+ghost use Rattle.records.specs.Records.{two, marked, node-fits};
+ghost use Rattle.records.specs.Answers.{judged, header-part, mark-part, unit-part, node-part, header-in, header-fits, header-answer, place, mark-of, units-in-run, nodes-in-run, Inside, unit-number, unit-answer, units-fault, node-number, node-answer, nodes-fault, parts-fault};
 use crate::Node;
 use crate::Unit;
 
@@ -77,7 +77,7 @@ pub fn read_header(b: &[u8], size: usize, first: u8, second: u8) -> HeaderRead
     if b.len() < size {
         return HeaderRead::Refused(Reason::Length);
     }
-    if !marked(b, 0, first, second) {
+    if !((b[0] == first) & (b[1] == second)) {
         return HeaderRead::Refused(Reason::Mark);
     }
     let header = header_in(b);
@@ -114,12 +114,13 @@ impl Run {
     }
 }
 
-// Whether a mark stands at a place.
-pub fn marked(b: &[u8], at: usize, first: u8, second: u8) -> bool
-    requires { ⌜ at + 2 ≤ length (now b) ⌝ }
-    ensures { λ r. ⌜ r ≡ marked (now (b .entry)) at (first ∷ second ∷ []) ⌝ }
+// Whether record i bears its mark.
+pub fn marked(b: &[u8], run: Run, i: usize) -> bool
+    requires { ⌜ place run i + mark-part ≤ length (now b) ⌝ }
+    ensures { λ r. ⌜ r ≡ marked (now (b .entry)) (place run i) (mark-of run) ⌝ }
 {
-    (b[at] == first) & (b[at + 1] == second)
+    let at = run.place(i);
+    (b[at] == run.first) & (b[at + 1] == run.second)
 }
 
 // A field of two bytes.
@@ -135,24 +136,23 @@ pub enum UnitRead {
     Refused(Reason),
 }
 
-// The unit at a place.
-pub fn unit_at(b: &[u8], at: usize) -> Unit
-    requires { ⌜ at + unit-part ≤ length (now b) ⌝ }
-    ensures { λ r. ⌜ r ≡ unit-at (now (b .entry)) at ⌝ }
+// Unit q of a run.
+pub fn unit_in(b: &[u8], units: Run, q: usize) -> Unit
+    requires { ⌜ place units q + unit-part ≤ length (now b) ⌝ }
+    ensures { λ r. ⌜ r ≡ units-in-run (now (b .entry)) units q ⌝ }
 {
+    let at = units.place(q);
     Unit::new(b[at + 2], b[at + 3])
 }
 
 pub fn read_unit(b: &[u8], units: Run, i: usize) -> UnitRead
-    requires { ⌜ Inside unit-part units (now b) ⌝ }
-    requires { ⌜ i < units .count ⌝ }
+    requires { ⌜ place units i + unit-part ≤ length (now b) ⌝ }
     ensures { λ r. ⌜ r ≡ unit-answer (now (b .entry)) units i ⌝ }
 {
-    let at = units.place(i);
-    if !marked(b, at, units.first, units.second) {
+    if !marked(b, units, i) {
         return UnitRead::Refused(Reason::Mark);
     }
-    let unit = unit_at(b, at);
+    let unit = unit_in(b, units, i);
     if unit.fits() {
         UnitRead::Got(unit)
     } else {
@@ -171,7 +171,7 @@ fn unit_judged(got: UnitRead) -> Judged
 
 // The first fault of the units.
 pub fn judge_units(b: &[u8], units: Run) -> Judged
-    requires { ⌜ Inside unit-part units (now b) ⌝ }
+    requires { ⌜ Inside unit-part units (length (now b)) ⌝ }
     ensures { λ r. ⌜ r ≡ judged (units-fault (now (b .entry)) units) ⌝ }
 {
     let mut i = 0;
@@ -190,25 +190,26 @@ pub enum NodeRead {
     Refused(Reason),
 }
 
-// The node at a place.
-pub fn node_at(b: &[u8], at: usize) -> Node
-    requires { ⌜ at + node-part ≤ length (now b) ⌝ }
-    ensures { λ r. ⌜ r ≡ node-at (now (b .entry)) at ⌝ }
+// Node x of a run.
+pub fn node_in(b: &[u8], nodes: Run, x: usize) -> Node
+    requires { ⌜ place nodes x + node-part ≤ length (now b) ⌝ }
+    ensures { λ r. ⌜ r ≡ nodes-in-run (now (b .entry)) nodes x ⌝ }
 {
+    let at = nodes.place(x);
     let k = words::two_complement(two_at(b, at + 5));
     Node::new(b[at + 2], b[at + 3], b[at + 4], k)
 }
 
 // Whether a node's fields lie in their ranges, its op on a unit of its kind.
 fn node_fits(b: &[u8], fold: u8, units: Run, n: Node) -> bool
-    requires { ⌜ Inside unit-part units (now b) ⌝ }
+    requires { ⌜ Inside unit-part units (length (now b)) ⌝ }
     ensures { λ r. ⌜ r ≡ node-fits fold (units .count) (units-in-run (now (b .entry)) units) n ⌝ }
 {
     let q = n.unit as usize;
     if units.count <= q {
         return false;
     }
-    let unit = unit_at(b, units.place(q));
+    let unit = unit_in(b, units, q);
     (n.slot < fold)
         & (n.op <= Unit::LAST_OP)
         & (unit.kind == Unit::kind_of(n.op))
@@ -216,16 +217,14 @@ fn node_fits(b: &[u8], fold: u8, units: Run, n: Node) -> bool
 }
 
 pub fn read_node(b: &[u8], fold: u8, units: Run, nodes: Run, i: usize) -> NodeRead
-    requires { ⌜ Inside unit-part units (now b) ⌝ }
-    requires { ⌜ Inside node-part nodes (now b) ⌝ }
-    requires { ⌜ i < nodes .count ⌝ }
+    requires { ⌜ Inside unit-part units (length (now b)) ⌝ }
+    requires { ⌜ place nodes i + node-part ≤ length (now b) ⌝ }
     ensures { λ r. ⌜ r ≡ node-answer (now (b .entry)) fold units nodes i ⌝ }
 {
-    let at = nodes.place(i);
-    if !marked(b, at, nodes.first, nodes.second) {
+    if !marked(b, nodes, i) {
         return NodeRead::Refused(Reason::Mark);
     }
-    let node = node_at(b, at);
+    let node = node_in(b, nodes, i);
     if node_fits(b, fold, units, node) {
         NodeRead::Got(node)
     } else {
@@ -244,8 +243,8 @@ fn node_judged(got: NodeRead) -> Judged
 
 // The first fault of the nodes.
 pub fn judge_nodes(b: &[u8], fold: u8, units: Run, nodes: Run) -> Judged
-    requires { ⌜ Inside unit-part units (now b) ⌝ }
-    requires { ⌜ Inside node-part nodes (now b) ⌝ }
+    requires { ⌜ Inside unit-part units (length (now b)) ⌝ }
+    requires { ⌜ Inside node-part nodes (length (now b)) ⌝ }
     ensures { λ r. ⌜ r ≡ judged (nodes-fault (now (b .entry)) fold units nodes) ⌝ }
 {
     let mut i = 0;
@@ -257,4 +256,20 @@ pub fn judge_nodes(b: &[u8], fold: u8, units: Run, nodes: Run) -> Judged
         i += 1;
     }
     Judged::Passed
+}
+
+// The first fault of the total length, the units and the nodes.
+pub fn judge_parts(b: &[u8], whole: usize, fold: u8, units: Run, nodes: Run) -> Judged
+    requires { ⌜ Inside unit-part units whole ⌝ }
+    requires { ⌜ Inside node-part nodes whole ⌝ }
+    ensures { λ r. ⌜ r ≡ judged (parts-fault (now (b .entry)) whole fold units nodes) ⌝ }
+{
+    if b.len() != whole {
+        return Judged::Refused(Reason::Length);
+    }
+    let judged = judge_units(b, units);
+    let Judged::Passed = judged else {
+        return judged;
+    };
+    judge_nodes(b, fold, units, nodes)
 }

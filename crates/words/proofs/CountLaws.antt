@@ -7,6 +7,7 @@ use native.Mathlib.Nat.{eq-or-lt-of-le}
 use native.Mathlib.Omega.{arith}
 use Rattle.words.specs.Loops.{some-of, total, count}
 use Rattle.words.proofs.LoopLaws.{passed?, total-cong}
+use Rattle.words.proofs.FaultLaws.{none-of}
 
 pub total-sum : (n : ℕ) (f g : ℕ → ℕ) → total n (λ i. f i + g i) ≡ total n f + total n g
 unfolding total
@@ -51,3 +52,41 @@ pub count-split : (n : ℕ) (p q r : ℕ → Bool) → ((i : ℕ) → i < n → 
 unfolding count
 count-split n p q r h =
     total-cong n (λ i. cond (r i) 1 0) (λ i. cond (p i) 1 0 + cond (q i) 1 0) h ∙ total-sum n (λ i. cond (p i) 1 0) (λ i. cond (q i) 1 0)
+
+-- where no i from m on passes, the first m decide
+pub count-short : (n m : ℕ) (p : ℕ → Bool) → m ≤ n → ((i : ℕ) → m ≤ i → p i ≡ false) → count n p ≡ count m p
+unfolding count total
+count-short zero m p l h = let e : m ≡ 0 = omega arith in rw e refl
+count-short (suc n) m p l h = elim (eq-or-lt-of-le l) [
+  | inl e ↦ rw e refl
+  | inr k ↦ rw (count-short n m p (omega arith) h, h n (omega arith)) (omega arith)
+]
+
+-- ---- what a count of one says
+
+pub count-some : (n : ℕ) (p : ℕ → Bool) (i : ℕ) → i < n → p i ≡ true → 1 ≤ count n p
+unfolding count total
+count-some zero p i l t = absurd (omega arith)
+count-some (suc n) p i l t = elim (eq-or-lt-of-le l) [
+  | inl e ↦ let e′ : n ≡ i = omega arith in rw (e′, t) (omega arith)
+  | inr k ↦ let c = count-some n p i (omega arith) t in omega arith
+]
+
+pub count-two : (n : ℕ) (p : ℕ → Bool) (i j : ℕ) → i < j → j < n → p i ≡ true → p j ≡ true → 2 ≤ count n p
+unfolding count total
+count-two zero p i j h l t u = absurd (omega arith)
+count-two (suc n) p i j h l t u = elim (eq-or-lt-of-le l) [
+  | inl e ↦
+      let e′ : n ≡ j = omega arith in
+      let c = count-some n p i (omega arith) t in
+      let last : cond {A = ℕ} (p n) 1 0 ≡ 1 = rw (e′, u) refl in
+      omega arith
+  | inr k ↦ let c = count-two n p i j h (omega arith) t u in omega arith
+]
+
+-- where one passes, some does
+pub count-found : (n : ℕ) (p : ℕ → Bool) → count n p ≡ 1 → some-of n p ≡ true
+count-found n p h = elim (passed? (some-of n p)) [
+  | inl t ↦ t
+  | inr f ↦ let z = count-none n p (none-of n p f) in absurd (omega arith)
+]

@@ -1,11 +1,12 @@
 -- Laws of the loops.
 use mathlib.Core.Path.{_≡_, refl, sym, ap, _∙_, subst}
 use mathlib.Core.Logic.{_⊎_, inl, inr}
-use mathlib.Core.Bool.{Bool, true, false, not, cond, _&&_, _||_, true≢false}
+use mathlib.Core.Bool.{Bool, true, false, not, cond, _&&_, _||_, true≢false, and-false, and-or-distrib-left}
 use mathlib.Core.Option.{Option, some, none}
 use mathlib.Core.List.{List, [], _∷_, _++_}
 use Prim.Native.Nat.{ℕ, zero, suc, _+_, _*_, _-_, _<_, _≤_, max}
 use native.Mathlib.Nat.{eq-or-lt-of-le}
+use native.Mathlib.Numerals.{add-one}
 use native.Mathlib.Omega.{arith}
 use lib.Dec.{T, ltb, leb, eqb}
 use lib.ListN.{length, getD}
@@ -99,6 +100,14 @@ unfolding every
 every-all zero p h = refl
 every-all (suc n) p h = and-join (every n p) (p n) (every-all n p (λ i l. h i (omega arith))) (h n (omega arith))
 
+-- a loop that goes on while all pass, and stops at one that does not
+pub every-more : (n : ℕ) (p : ℕ → Bool) → every n p ≡ true → p n ≡ true → every (n + 1) p ≡ true
+unfolding every
+every-more n p h k = rw add-one (and-join (every n p) (p n) h k)
+
+pub every-stop : (n i : ℕ) (p : ℕ → Bool) → i < n → p i ≡ false → every n p ≡ false
+every-stop n i p l h = elim (passed? (every n p)) [ inl t ↦ absurd (true≢false (sym (every-at n p t i l) ∙ h)) | inr f ↦ f ]
+
 -- where not all pass, some i does not
 pub every-not : (n : ℕ) (p : ℕ → Bool) → every n p ≡ false → (i : ℕ) × (i < n) × (p i ≡ false)
 unfolding every
@@ -153,10 +162,32 @@ some-of-hit (suc n) p i h t = elim (eq-or-lt-of-le h) [
     or-right true b h = refl
     or-right false b h = h
 
+pub some-none : (n : ℕ) (p : ℕ → Bool) → ((i : ℕ) → i < n → p i ≡ false) → some-of n p ≡ false
+unfolding some-of
+some-none zero p h = refl
+some-none (suc n) p h = rw (some-none n p (λ i l. h i (omega arith)), h n (omega arith)) refl
+
 pub some-of-cong : (n : ℕ) (p q : ℕ → Bool) → ((i : ℕ) → i < n → p i ≡ q i) → some-of n p ≡ some-of n q
 unfolding some-of
 some-of-cong zero p q h = refl
 some-of-cong (suc n) p q h = rw (some-of-cong n p q (λ i l. h i (omega arith)), h n (omega arith)) refl
+
+-- one test or the other, and a test that goes by no i
+pub some-or : (n : ℕ) (p q : ℕ → Bool) → some-of n (λ i. p i || q i) ≡ (some-of n p || some-of n q)
+unfolding some-of
+some-or zero p q = refl
+some-or (suc n) p q = rw (some-or n p q) (swapped (some-of n p) (some-of n q) (p n) (q n))
+  where
+    swapped : (a b c d : Bool) → ((a || b) || (c || d)) ≡ ((a || c) || (b || d))
+    swapped true b c d = refl
+    swapped false true true d = refl
+    swapped false true false d = refl
+    swapped false false c d = refl
+
+pub some-and : (n : ℕ) (b : Bool) (p : ℕ → Bool) → some-of n (λ i. b && p i) ≡ (b && some-of n p)
+unfolding some-of
+some-and zero b p = sym (and-false b)
+some-and (suc n) b p = rw (some-and n b p) (sym (and-or-distrib-left b (some-of n p) (p n)))
 
 pub every-cong : (n : ℕ) (p q : ℕ → Bool) → ((i : ℕ) → i < n → p i ≡ q i) → every n p ≡ every n q
 unfolding every

@@ -1,6 +1,7 @@
 -- Laws of a mask of slots: what a slot put in changes, and that its ones are its slots, counted. Assumes nothing.
 use mathlib.Core.Path.{_≡_, refl, sym, ap, ap₂, _∙_}
-use mathlib.Core.Bool.{Bool, true, false, cond, _||_}
+use mathlib.Core.Bool.{Bool, true, false, cond, _||_, true≢false}
+use mathlib.Core.Logic.{inl, inr}
 use Prim.Native.Nat.{ℕ, zero, suc, _+_, _-_, _*_, _/_, _%_, _^_, _<_}
 use native.Mathlib.Nat.{add-comm, div-self, div-eq-of-lt, mod-lt}
 use native.Mathlib.Numerals.{one-add}
@@ -13,7 +14,7 @@ use lib.Pow.{shl-exact, shl-shr, shr-lt, split, field, mod-mod-pow, pow-add, pow
 use borrow.Author.Tests.{eqb-true, eqb-false, ltb-true, ltb-false}
 use Rattle.words.specs.Loops.{count, total}
 use Rattle.words.specs.Masks.{in-mask, with-slot}
-use Rattle.words.proofs.LoopLaws.{count-cong}
+use Rattle.words.proofs.LoopLaws.{passed?, count-cong}
 
 -- the shifted one of the code
 pub shl-one : (s : ℕ) → s < 32 → (1 * 2 ^ s) % 4294967296 ≡ 2 ^ s
@@ -100,3 +101,27 @@ ones-count (suc k) m h =
 -- where the mask holds the slots that pass, its ones are how many pass
 pub ones-are : (k m : ℕ) (p : ℕ → Bool) → m < 2 ^ k → ((v : ℕ) → v < k → in-mask m v ≡ p v) → ones m ≡ count k p
 ones-are k m p h e = ones-count k m h ∙ count-cong k (in-mask m) p e
+
+-- ---- masks of the same slots
+
+bit-same : (q r : ℕ) → q < 2 → r < 2 → eqb (q % 2) 1 ≡ eqb (r % 2) 1 → q ≡ r
+bit-same q r h k e = elim (passed? (eqb (q % 2) 1)) [
+  | inl t ↦ let a = eqb-true (q % 2) 1 t in let b = eqb-true (r % 2) 1 (sym e ∙ t) in omega arith
+  | inr f ↦ let a = zero-bit q h f in let b = zero-bit r k (sym e ∙ f) in omega arith
+]
+  where
+    zero-bit : (q : ℕ) → q < 2 → eqb (q % 2) 1 ≡ false → q ≡ 0
+    zero-bit zero h f = refl
+    zero-bit (suc zero) h f = absurd (true≢false f)
+    zero-bit (suc (suc q)) h f = absurd (omega arith)
+
+-- two masks of k slots that hold the same slots are one
+pub mask-same : (k m n : ℕ) → m < 2 ^ k → n < 2 ^ k → ((v : ℕ) → v < k → in-mask m v ≡ in-mask n v) → m ≡ n
+unfolding in-mask
+mask-same zero m n h l e = lt-one h ∙ sym (lt-one l)
+mask-same (suc k) m n h l e =
+    let top : m / 2 ^ k ≡ n / 2 ^ k =
+    bit-same (m / 2 ^ k) (n / 2 ^ k) (shr-lt 1 k (rw (sym (one-add k)) at h)) (shr-lt 1 k (rw (sym (one-add k)) at l)) (e k (omega arith)) in
+    let low : m % 2 ^ k ≡ n % 2 ^ k =
+    mask-same k (m % 2 ^ k) (n % 2 ^ k) (mod-lt m (pow-pos k)) (mod-lt n (pow-pos k)) (λ v b. in-low m k v b ∙ e v (omega arith) ∙ sym (in-low n k v b)) in
+    sym (split m k) ∙ ap₂ (λ (x y : ℕ). x * 2 ^ k + y) top low ∙ split n k

@@ -5,8 +5,8 @@ use native.Mathlib.Omega.{arith}
 use borrow.Author.Needs.{needs}
 use Rattle.words.specs.Loops.{first}
 use Rattle.words.proofs.FaultLaws.{first-more}
-use Rattle.records.specs.Answers.{judged, node-number, node-fault}
-use Rattle.records.proofs.AnswerLaws.{node-told, run-refused}
+use Rattle.records.specs.Answers.{judged, node-part, node-number, node-fault}
+use Rattle.records.proofs.AnswerLaws.{in-run, node-told, run-refused}
 use Rattle.records.proofs.reading.judge_nodes.Statement.{statement}
 use Rattle.records.proofs.reading.judge_nodes.Tie as tie
 
@@ -21,7 +21,9 @@ unfolding first
 loop-holds c = (omega arith, refl)
 
 read-node-requires : tie.Need-read-node-requires Inv-loop μ-loop
-read-node-requires c κs = search needs
+read-node-requires c κs =
+    let l = c .before .before in
+    (l .before .before .pre .0, in-run node-part _ _ (l .loop .i) (l .before .before .pre .1) (c .if1 .taken))
 
 enum-told : tie.Need-enum-told Inv-loop μ-loop
 enum-told c = search needs

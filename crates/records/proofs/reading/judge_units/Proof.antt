@@ -5,8 +5,8 @@ use native.Mathlib.Omega.{arith}
 use borrow.Author.Needs.{needs}
 use Rattle.words.specs.Loops.{first}
 use Rattle.words.proofs.FaultLaws.{first-more}
-use Rattle.records.specs.Answers.{judged, unit-number, unit-fault}
-use Rattle.records.proofs.AnswerLaws.{unit-told, run-refused}
+use Rattle.records.specs.Answers.{judged, unit-part, unit-number, unit-fault}
+use Rattle.records.proofs.AnswerLaws.{in-run, unit-told, run-refused}
 use Rattle.records.proofs.reading.judge_units.Statement.{statement}
 use Rattle.records.proofs.reading.judge_units.Tie as tie
 
@@ -21,7 +21,9 @@ unfolding first
 loop-holds c = (omega arith, refl)
 
 read-unit-requires : tie.Need-read-unit-requires Inv-loop μ-loop
-read-unit-requires c κs = search needs
+read-unit-requires c κs =
+    let l = c .before .before in
+    in-run unit-part _ _ (l .loop .i) (l .before .before .pre) (c .if1 .taken)
 
 enum-told : tie.Need-enum-told Inv-loop μ-loop
 enum-told c = search needs
