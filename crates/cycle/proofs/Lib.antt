@@ -6,3 +6,4 @@ pub mod ShiftLaws
 pub mod LastLaws
 pub mod ResultLaws
 pub mod GivenLaws
+pub mod MovingLaws

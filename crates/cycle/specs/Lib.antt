@@ -2,3 +2,4 @@
 pub mod Cycle
 pub mod Taken
 pub mod Given
+pub mod Moving
