@@ -1,3 +1,4 @@
+-- `cycle::lines_of` meets its contract: unit q begins where the units before it end. Assumes nothing.
 use Prim.Native.Nat.{ℕ, suc, _+_, _*_, _-_, _<_, _≤_}
 use mathlib.Core.Path.{_≡_, refl, ap, _∙_}
 use native.Mathlib.Omega.{arith}
@@ -9,10 +10,6 @@ use Rattle.cycle.proofs.TakenLaws.{few-units, unit-inside, units-so}
 use Rattle.cycle.proofs.PartLaws.{lines-more}
 use Rattle.cycle.proofs.lines_of.Statement.{statement}
 use Rattle.cycle.proofs.lines_of.Tie as tie
-use Rattle.cycle.proofs.lines_of.Reads as reads
-use Rattle.cycle.proofs.lines_of.Lts as lts
-use Rattle.cycle.proofs.places_at.Reads as places-at-reads
-use Rattle.plans.proofs.Plan.unit_place.Reads as unit-place-reads
 
 abbrev Inv-loop : tie.InvT-loop
 Inv-loop plan p units at₀ size₀ q₀ at size q =
