@@ -15,8 +15,8 @@ use Rattle.records.specs.declared.reading.NodeRead.{NodeRead}
 use Rattle.records.specs.declared.reading.NodeRead.the-variants as N
 use Rattle.records.specs.declared.reading.Run.{Run}
 use Rattle.records.specs.Units.{unit-fits}
-use Rattle.records.specs.Records.{node-fits}
-use Rattle.records.specs.Answers.{reason-number, reason-of, answer, judged, place, mark-of, Inside, units-in-run, nodes-in-run, unit-fault, unit-number, unit-answer, node-fault, node-number, node-answer}
+use Rattle.records.specs.Records.{Format, node-fits}
+use Rattle.records.specs.Answers.{reason-number, reason-of, answer, judged, place, mark-of, unit-run, node-run, wire-run, Inside, units-in-run, nodes-in-run, unit-fault, unit-number, unit-answer, node-fault, node-number, node-answer}
 use Rattle.records.proofs.ReadingLaws.{record-le}
 
 -- ---- reasons and their numbers
@@ -55,16 +55,26 @@ pub number-answer : {A : Type 0} (number : A → ℕ) (got : A) (refused : Reaso
 number-answer number got refused g r zero k = g
 number-answer number got refused g r (suc n) k = r (reason-of (suc n)) ∙ reason-back (suc n) (omega arith) k
 
+-- an answer taken over into another
+pub answer-map : {A B : Type 0} (h : A → B) (got : A) (refused : Reason → A) (f : ℕ) → h (answer got refused f) ≡ answer (h got) (λ why. h (refused why)) f
+answer-map h got refused zero = refl
+answer-map h got refused (suc n) = refl
+
 -- ---- judging part by part
 
 pub passed-none : (f : ℕ) → judged f ≡ J.Passed → f ≡ 0
 passed-none zero e = refl
 passed-none (suc n) e = let z : _≡_ {A = ℕ} 0 1 = cc in absurd (omega arith)
 
--- a part that is refused decides
+-- what is refused in part is refused for that reason
+pub refused-last : {A : Type 0} (got : A) (refused : Reason → A) (a : ℕ) (why : Reason) → judged a ≡ J.Refused why → answer got refused a ≡ refused why
+refused-last got refused zero why e = let z : _≡_ {A = ℕ} 0 1 = cc in absurd (omega arith)
+refused-last got refused (suc n) why e = let r : reason-of (suc n) ≡ why = cc in ap refused r
+
+-- and a part that is refused decides
 pub refused-first : {A : Type 0} (got : A) (refused : Reason → A) (a b : ℕ) (why : Reason) → judged a ≡ J.Refused why → answer got refused (a then b) ≡ refused why
 refused-first got refused zero b why e = let z : _≡_ {A = ℕ} 0 1 = cc in absurd (omega arith)
-refused-first got refused (suc n) b why e = let r : reason-of (suc n) ≡ why = cc in ap refused r
+refused-first got refused (suc n) b why e = refused-last got refused (suc n) why e
 
 -- the number of a reader's answer is its record's fault
 pub unit-told : (b : List ℕ) (r : Run) (i : ℕ) (a : UnitRead) → a ≡ unit-answer b r i → unit-number a ≡ unit-fault b r i
@@ -90,3 +100,14 @@ pub in-run : (n : ℕ) (r : Run) (whole i : ℕ) → Inside n r whole → i < r 
 in-run n r whole i h l =
     let m : r .size * suc i ≤ r .size * r .count = mul-le-mul-left (r .size) l in
     omega (arith, h .wide, h .ends)
+
+-- the runs lie one behind the other
+module _ (f : Format) (u n w k : ℕ) where
+  pub units-inside : k ≤ f .unit-length → Inside k (unit-run f u) (place (wire-run f u n w) w)
+  units-inside h = record { wide = h; ends = omega arith }
+
+  pub nodes-inside : k ≤ f .node-length → Inside k (node-run f u n) (place (wire-run f u n w) w)
+  nodes-inside h = record { wide = h; ends = omega arith }
+
+  pub wires-inside : k ≤ f .wire-length → Inside k (wire-run f u n w) (place (wire-run f u n w) w)
+  wires-inside h = record { wide = h; ends = omega arith }

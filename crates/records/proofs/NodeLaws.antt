@@ -63,6 +63,17 @@ node-split fold units unit n h =
       k-most-ge = leZ-true (n .k) (k-most (n .op)) (k .1);
     }
 
+-- only a unit that is there counts
+pub node-fits-same : (fold units : ℕ) (unit unit′ : ℕ → Unit) (n : Node) → ((q : ℕ) → q < units → unit q ≡ unit′ q) →
+    node-fits fold units unit n ≡ node-fits fold units unit′ n
+node-fits-same fold units unit unit′ n h = by-unit (ltb (n .unit) units) refl
+  where
+    by-unit : (there : Bool) → ltb (n .unit) units ≡ there → node-fits fold units unit n ≡ node-fits fold units unit′ n
+    by-unit true e =
+        ap (λ (u : Unit). ltb (n .unit) units && ltb (n .slot) fold && leb (n .op) last-op && eqb (u .kind) (kind-of (n .op)) && k-fits (n .op) (n .k))
+        (h (n .unit) (ltb-true (n .unit) units e))
+    by-unit false e = rw e refl
+
 -- ---- nodes that do not clash
 
 module _ (n : ℕ) (node : ℕ → Node) (free : clashes n node ≡ false) where

@@ -12,7 +12,7 @@ use lib.ListN.{length, getD, set, length-set}
 use borrow.Author.Tests.{leb-true, eqb-true, ne-eqb}
 use Rattle.words.specs.Loops.{some-of}
 use Rattle.words.specs.Masks.{in-mask, with-slot}
-use Rattle.words.proofs.LoopLaws.{and-split, some-none, some-or}
+use Rattle.words.proofs.LoopLaws.{and-split, some-none, some-or, some-of-cong}
 use Rattle.words.proofs.CountLaws.{count-short}
 use Rattle.words.proofs.MaskLaws.{ones-are}
 use Rattle.records.specs.declared.Node.{Node}
@@ -117,3 +117,13 @@ occupied-ones fold n node s q t h turn =
   where
     beyond : (v : ℕ) → fold ≤ v → (x : ℕ) → x < n → runs-in q v (node x) ≡ false
     beyond v l x k = rw (ne-eqb (node x .slot) v (λ e. let u = turn x k in omega arith)) (and-false (eqb (node x .unit) q))
+
+-- ---- nodes read in two ways
+
+pub slots-same : (n : ℕ) (node node′ : ℕ → Node) (s : Slots) → ((x : ℕ) → x < n → node x ≡ node′ x) → SlotsOf n node s → SlotsOf n node′ s
+unfolding clashes
+slots-same n node node′ s h t = record {
+  clash-is = t .clash-is ∙ some-of-cong n _ _ (λ y l. some-of-cong y _ _ (λ x k. ap₂ clash (h x (omega arith)) (h y l)));
+  taken = λ q v. t .taken q v ∙ some-of-cong n _ _ (λ x l. ap (runs-in q v) (h x l));
+  small = t .small;
+}

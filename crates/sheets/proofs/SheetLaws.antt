@@ -104,7 +104,7 @@ pub record WireFits (s : Sheet) (e : ℕ) : Type 0 where
   pub input-fits : wire-of s e .input < inputs-of (node-of s (wire-of s e .to) .op)
   pub delays-most : wire-of s e .delays ≤ most-delays
 
-wire-split : (s : Sheet) (e : ℕ) → wire-test s e ≡ true → WireFits s e
+pub wire-split : (s : Sheet) (e : ℕ) → wire-test s e ≡ true → WireFits s e
 wire-split s e h =
     let w = wire-of s e in
     let a = ltb (w .from) (length (s .nodes)) in

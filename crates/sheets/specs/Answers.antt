@@ -1,44 +1,52 @@
--- What reading a sheet answers, and what its records feed. Assumes nothing.
+-- What reading a sheet answers, and what its wires feed. Assumes nothing.
 use mathlib.Core.Path.{_≡_}
-use mathlib.Core.Bool.{not}
+use mathlib.Core.Bool.{true, not}
 use mathlib.Core.List.{List}
-use Prim.Native.Nat.{ℕ, _≤_}
+use Prim.Native.Nat.{ℕ, _<_}
 use lib.ListN.{length}
 use Rattle.words.specs.Loops.{first, unless, _then_}
+use Rattle.records.specs.declared.reading.HeaderRead.{HeaderRead}
+use Rattle.records.specs.declared.reading.HeaderRead.the-variants as H
 use Rattle.records.specs.declared.feeding.Input.{Input}
-use Rattle.records.specs.Records.{fold-in, units-in, nodes-in, wires-in, wire-place, whole-length, record-fault, clashes, fed-once}
-use Rattle.records.specs.Answers.{reason-number, answer, header-fault}
+use Rattle.records.specs.Records.{fold-in, units-in, nodes-in, wires-in, counts-fit, wire-place, whole-length, record-fault, node-fits, clashes, fed-once}
+use Rattle.records.specs.Answers.{reason-number, answer, header-fault, unit-run, node-run, parts-fault}
 use Rattle.sheets.specs.declared.Sheet.{Sheet as Header}
-use Rattle.sheets.specs.declared.SheetRead.{SheetRead}
-use Rattle.sheets.specs.declared.SheetRead.the-variants as S
+use Rattle.sheets.specs.declared.judging.SheetRead.{SheetRead}
+use Rattle.sheets.specs.declared.judging.SheetRead.the-variants as S
 use Rattle.sheets.specs.declared.judging.WireRead.{WireRead}
 use Rattle.sheets.specs.declared.judging.WireRead.the-variants as W
-use Rattle.sheets.specs.Sheet.{Sheet, node-of, wire-of, sheet-format, sheet-of, wire-fits, feeds, sheet-fault}
+use Rattle.sheets.specs.Sheet.{Sheet, unit-of, node-of, wire-of, sheet-format, sheet-of, wire-fits, feeds, sheet-fault}
+
+-- ---- the whole reading
 
 -- what the header says
 abbrev pub header-of : List ℕ → Header
 header-of b = record { fold = fold-in b; units = units-in b; nodes = nodes-in b; wires = wires-in b }
-
--- the header is what the bytes say, and they are as long as it says
-pub record Whole (b : List ℕ) (s : Header) : Type 0 where
-  pub said : s ≡ header-of b
-  pub long : length b ≡ whole-length sheet-format b
 
 -- 01's number for each answer, 0 for a sheet
 abbrev pub sheet-number : SheetRead → ℕ
 sheet-number (S.Got s) = 0
 sheet-number (S.Refused why) = reason-number why
 
--- "Each call ends in its result or one numbered refusal", the first fault in 01's order
+-- "Each call ends in its result or one numbered refusal": the sheet that the header says, or the reason of the first fault
 unfoldable pub sheet-answer : List ℕ → SheetRead
 sheet-answer b = answer (S.Got (header-of b)) S.Refused (sheet-fault b)
 
--- the header alone
-abbrev pub header-answer : List ℕ → SheetRead
-header-answer b = answer (S.Got (header-of b)) S.Refused (header-fault b (sheet-format .header-length) (sheet-format .header-mark))
+-- ---- its parts, in 01's order
 
--- ---- wires
+-- the header
+abbrev pub head-fault : List ℕ → ℕ
+head-fault b = header-fault b (sheet-format .header-length) (sheet-format .header-mark)
 
+unfoldable pub header-answer : List ℕ → SheetRead
+header-answer b = answer (S.Got (header-of b)) S.Refused (head-fault b)
+
+-- the header's answer as a sheet's
+abbrev pub sheet-read : HeaderRead → SheetRead
+sheet-read (H.Got h) = S.Got (record { fold = h .fold; units = h .units; nodes = h .nodes; wires = h .wires })
+sheet-read (H.Refused why) = S.Refused why
+
+-- the wires
 unfoldable pub wire-fault : List ℕ → ℕ → ℕ
 wire-fault b e = record-fault b (wire-place sheet-format b e) (sheet-format .wire-mark) (wire-fits (sheet-of b) (wire-of (sheet-of b) e))
 
@@ -52,12 +60,39 @@ wire-answer b e = answer (W.Got (wire-of (sheet-of b) e)) W.Refused (wire-fault 
 abbrev pub wires-fault : List ℕ → ℕ
 wires-fault b = first (wires-in b) (wire-fault b)
 
+-- the total length, the units and the nodes
+unfoldable pub front-fault : List ℕ → ℕ
+front-fault b =
+    parts-fault b (whole-length sheet-format b) (fold-in b) (unit-run sheet-format (units-in b)) (node-run sheet-format (units-in b) (nodes-in b))
+
+-- the total length and the records
+abbrev pub records-fault : List ℕ → ℕ
+records-fault b = front-fault b then wires-fault b
+
+-- 4 and 5
+abbrev pub nodes-fault : Sheet → ℕ
+nodes-fault s =
+    unless (not (clashes (length (s .nodes)) (node-of s))) 4 then unless (fed-once (length (s .nodes)) (node-of s) (length (s .wires)) (feeds s)) 5
+
 -- the input that wire e feeds
 abbrev pub input-of : Sheet → ℕ → Input
 input-of s e = record { unit = node-of s (wire-of s e .to) .unit; slot = node-of s (wire-of s e .to) .slot; input = wire-of s e .input }
 
--- ---- clashes and inputs fed
+-- ---- what the readers ask
 
-abbrev pub nodes-fault : Sheet → ℕ
-nodes-fault s =
-    unless (not (clashes (length (s .nodes)) (node-of s))) 4 then unless (fed-once (length (s .nodes)) (node-of s) (length (s .wires)) (feeds s)) 5
+-- the header is what the bytes say, N and the numbers in their ranges
+pub record HeaderSaid (b : List ℕ) (s : Header) : Type 0 where
+  pub said : s ≡ header-of b
+  pub counts : counts-fit b ≡ true
+
+-- the header is what the bytes say, and they are as long as it says
+pub record Whole (b : List ℕ) (s : Header) : Type 0 where
+  pub said : s ≡ header-of b
+  pub long : length b ≡ whole-length sheet-format b
+
+-- and every node and wire lies in its ranges
+pub record Held (b : List ℕ) (s : Header) : Type 0 where
+  pub whole : Whole b s
+  pub counts : counts-fit b ≡ true
+  pub node-ok : (x : ℕ) → x < nodes-in b → node-fits (sheet-of b .fold) (length (sheet-of b .units)) (unit-of (sheet-of b)) (node-of (sheet-of b) x) ≡ true
+  pub wire-ok : (e : ℕ) → e < wires-in b → wire-fits (sheet-of b) (wire-of (sheet-of b) e) ≡ true

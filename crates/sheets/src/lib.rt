@@ -1,15 +1,16 @@
-// Folding sheets: every byte string is read as a sheet or refused with the first fault in 01's order, and a sheet's records are
-// read where they stand.
+// Folding sheets: what a header says, and a sheet's records read where they stand.
 ghost use mathlib.Core.Path.{_≡_};
 ghost use Prim.Native.Nat.{_+_, _<_, _≤_};
 ghost use lib.ListN.{length};
-ghost use Rattle.sheets.specs.Sheet.{sheet-of, unit-of, node-of, wire-of, wire-at};
-ghost use Rattle.sheets.specs.Answers.{header-of, unit-run, node-run, wire-run, Whole};
+ghost use Rattle.records.specs.Answers.{place, unit-run, node-run, wire-run};
+ghost use Rattle.sheets.specs.Sheet.{sheet-format, sheet-of, unit-of, node-of, wire-of, wire-at};
+ghost use Rattle.sheets.specs.Answers.{Whole};
 use records::Node;
 use records::Unit;
 use records::reading::Header;
-use records::reading::Reason;
 use records::reading::Run;
+use records::reading::node_in;
+use records::reading::unit_in;
 
 pub mod judging;
 
@@ -41,13 +42,11 @@ impl Sheet {
 
     pub const WIRE_LENGTH: usize = 6;
     // Limits.
-    pub const MOST_FOLD: u8 = Header::MOST_FOLD;
+    pub const MOST_UNITS: usize = Header::MOST_UNITS as usize;
 
-    pub const MOST_UNITS: u8 = Header::MOST_UNITS;
+    pub const MOST_NODES: usize = Header::MOST_NODES as usize;
 
-    pub const MOST_NODES: u8 = Header::MOST_NODES;
-
-    pub const MOST_WIRES: u8 = Header::MOST_WIRES;
+    pub const MOST_WIRES: usize = Header::MOST_WIRES as usize;
 
     pub const MOST_DELAYS: u8 = 63;
 
@@ -62,9 +61,9 @@ impl Sheet {
         }
     }
 
-    // Where the units stand, the nodes behind them and the wires last.
+    // Where the units stand, the nodes behind them, and the wires last.
     pub fn unit_run(self) -> Run
-        ensures { λ r. ⌜ r ≡ unit-run self ⌝ }
+        ensures { λ r. ⌜ r ≡ unit-run sheet-format (self .units) ⌝ }
     {
         Run {
             at: Self::HEADER_LENGTH,
@@ -76,7 +75,7 @@ impl Sheet {
     }
 
     pub fn node_run(self) -> Run
-        ensures { λ r. ⌜ r ≡ node-run self ⌝ }
+        ensures { λ r. ⌜ r ≡ node-run sheet-format (self .units) (self .nodes) ⌝ }
     {
         Run {
             at: Self::HEADER_LENGTH + Self::UNIT_LENGTH * self.units as usize,
@@ -88,7 +87,7 @@ impl Sheet {
     }
 
     pub fn wire_run(self) -> Run
-        ensures { λ r. ⌜ r ≡ wire-run self ⌝ }
+        ensures { λ r. ⌜ r ≡ wire-run sheet-format (self .units) (self .nodes) (self .wires) ⌝ }
     {
         Run {
             at: Self::HEADER_LENGTH
@@ -100,11 +99,6 @@ impl Sheet {
             second: Self::WIRE_MARK,
         }
     }
-}
-
-pub enum SheetRead {
-    Got(Sheet),
-    Refused(Reason),
 }
 
 // A wire: the nodes that it leaves and meets, the input that it feeds, its delays.
@@ -134,7 +128,7 @@ pub fn unit_of(b: &[u8], sheet: Sheet, q: usize) -> Unit
     requires { ⌜ q < sheet .units ⌝ }
     ensures { λ r. ⌜ r ≡ unit-of (sheet-of (now (b .entry))) q ⌝ }
 {
-    records::reading::unit_in(b, sheet.unit_run(), q)
+    unit_in(b, sheet.unit_run(), q)
 }
 
 // Node x of a sheet.
@@ -143,7 +137,7 @@ pub fn node_of(b: &[u8], sheet: Sheet, x: usize) -> Node
     requires { ⌜ x < sheet .nodes ⌝ }
     ensures { λ r. ⌜ r ≡ node-of (sheet-of (now (b .entry))) x ⌝ }
 {
-    records::reading::node_in(b, sheet.node_run(), x)
+    node_in(b, sheet.node_run(), x)
 }
 
 // Wire e of a sheet.
@@ -152,13 +146,14 @@ pub fn wire_of(b: &[u8], sheet: Sheet, e: usize) -> Wire
     requires { ⌜ e < sheet .wires ⌝ }
     ensures { λ r. ⌜ r ≡ wire-of (sheet-of (now (b .entry))) e ⌝ }
 {
-    wire_at(b, sheet.wire_run().place(e))
+    wire_in(b, sheet.wire_run(), e)
 }
 
-// The wire at a place.
-fn wire_at(b: &[u8], at: usize) -> Wire
-    requires { ⌜ at + 6 ≤ length (now b) ⌝ }
-    ensures { λ r. ⌜ r ≡ wire-at (now (b .entry)) at ⌝ }
+// Wire e of a run.
+fn wire_in(b: &[u8], wires: Run, e: usize) -> Wire
+    requires { ⌜ place wires e + sheet-format .wire-length ≤ length (now b) ⌝ }
+    ensures { λ r. ⌜ r ≡ wire-at (now (b .entry)) (place wires e) ⌝ }
 {
+    let at = wires.place(e);
     Wire::new(b[at + 2], b[at + 3], b[at + 4], b[at + 5])
 }

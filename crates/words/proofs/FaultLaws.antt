@@ -16,6 +16,10 @@ then-split (suc a) b h = absurd (omega arith)
 pub then-join : (a b : ℕ) → a ≡ 0 → b ≡ 0 → (a then b) ≡ 0
 then-join a b p q = rw (p, q) refl
 
+pub then-assoc : (a b c : ℕ) → (a then b then c) ≡ (a then (b then c))
+then-assoc zero b c = refl
+then-assoc (suc a) b c = refl
+
 -- the first fault of two is one of them
 pub then-one : (a b : ℕ) → ((a then b) ≡ a) ⊎ ((a then b) ≡ b)
 then-one zero b = inr refl

@@ -1,27 +1,18 @@
+-- `sheets::wire_of` meets its contract: the header says where the record stands. Assumes nothing.
+use mathlib.Core.Path.{_∙_}
+use Rattle.sheets.proofs.HeldLaws.{wire-ends, wire-got}
 use borrow.Author.Needs.{needs}
 use Rattle.sheets.proofs.wire_of.Statement.{statement}
 use Rattle.sheets.proofs.wire_of.Tie as tie
-use Rattle.sheets.proofs.wire_of.Reads as reads
-use Rattle.sheets.proofs.wire_of.Lts as lts
-use Rattle.records.proofs.reading.Run.place.Reads as place-reads
-use Rattle.sheets.proofs.Sheet.wire_run.Reads as wire-run-reads
-use Rattle.sheets.proofs.wire_at.Reads as wire-at-reads
 
--- src/lib.rt:155:16
 wire-run-requires : tie.Need-wire-run-requires
 wire-run-requires c κs = search needs
 
--- src/lib.rt:155:16
-place-requires : tie.Need-place-requires
-place-requires c κs = ?
+wire-in-requires : tie.Need-wire-in-requires
+wire-in-requires c κs = let s = c .before .before in wire-ends _ _ (s .pre .0) (c .wire-run .result) (c .wire-run .ensures) (s .args .e) (s .pre .1)
 
--- src/lib.rt:155:5
-wire-at-requires : tie.Need-wire-at-requires
-wire-at-requires c κs = ?
-
--- src/lib.rt:150:1
 returns : tie.Need-returns
-returns c = ?
+returns c = let s = c .before .before .before in c .wire-in .ensures ∙ wire-got _ _ (s .pre .0) (c .before .wire-run .result) (c .before .wire-run .ensures) (s .args .e) (s .pre .1)
 
 pub wire-of-spec : {M : Type 1} → statement M
-wire-of-spec = tie.close (tie.spec wire-run-requires place-requires wire-at-requires returns)
+wire-of-spec = tie.close (tie.spec wire-run-requires wire-in-requires returns)
