@@ -18,43 +18,11 @@ use Rattle.plans.specs.declared.Plan as Head
 use Rattle.plans.specs.Plan.{Plan, PlanUnit, PlanNode, Switch, unit-in, node-in, switch-in, plan-format, plan-unit-at, plan-node-at, switch-at, plan-read}
 use Rattle.plans.specs.Heads.{Whole}
 use Rattle.plans.specs.Judging.{most-chain, switch-fits, longest-tap, idle-slots, figures-right, plan-fault}
-use Rattle.plans.proofs.JudgingLaws.{Judged, judged}
+use Rattle.plans.proofs.JudgingLaws.{Judged, judged, SwitchFits, switch-split}
 use Rattle.plans.proofs.ReadLaws.{units-read, nodes-read, switches-read}
 use Rattle.plans.proofs.WholeLaws.{units-so, nodes-so, wires-so, unit-so}
 use Rattle.cycle.specs.Cycle.{places}
 use Rattle.cycle.specs.Taken.{Taken}
-
--- a switch names a unit, a source, and an input of a node that runs there
-pub record SwitchFits (p : Plan) (w : Switch) : Type 0 where
-  pub on-unit : w .unit < length (p .units)
-  pub in-turn : w .slot < p .fold
-  pub from-unit : w .source < length (p .units)
-  pub node : ℕ
-  pub is-node : node < length (p .nodes)
-  pub runs : runs-in (w .unit) (w .slot) (node-in p node .node) ≡ true
-  pub input-fits : w .input < inputs-of (node-in p node .node .op)
-
-switch-split : (p : Plan) (w : Switch) → switch-fits p w ≡ true → SwitchFits p w
-switch-split p w h =
-    let a = ltb (w .unit) (length (p .units)) in
-    let b = ltb (w .slot) (p .fold) in
-    let c = ltb (w .source) (length (p .units)) in
-    let here : ℕ → Bool = λ x. runs-in (w .unit) (w .slot) (node-in p x .node) && ltb (w .input) (inputs-of (node-in p x .node .op)) in
-    let t3 = and-split (a && b && c) (some-of (length (p .nodes)) here) h in
-    let t2 = and-split (a && b) c (t3 .0) in
-    let t1 = and-split a b (t2 .0) in
-    let f = some-found (length (p .nodes)) here (t3 .1) in
-    let n = node-in p (f .0) .node in
-    let both = and-split (runs-in (w .unit) (w .slot) n) (ltb (w .input) (inputs-of (n .op))) (f .2) in
-    record {
-      on-unit = ltb-true (w .unit) (length (p .units)) (t1 .0);
-      in-turn = ltb-true (w .slot) (p .fold) (t1 .1);
-      from-unit = ltb-true (w .source) (length (p .units)) (t2 .1);
-      node = f .0;
-      is-node = f .1;
-      runs = both .0;
-      input-fits = ltb-true (w .input) (inputs-of (n .op)) (both .1);
-    }
 
 pub whole-taken : {b : List ℕ} {p : Head.Plan} → Taken b p → Whole b p
 whole-taken {b} t = record { said = t .head; long = judged b (plan-read b) (t .fine) .records .whole }

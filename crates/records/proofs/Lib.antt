@@ -7,3 +7,4 @@ pub mod TableLaws
 pub mod SlotLaws
 pub mod FeedingLaws
 pub mod FedLaws
+pub mod FrontLaws

@@ -1,0 +1,5 @@
+-- Laws.
+pub mod HeadLaws
+pub mod PartLaws
+pub mod RunLaws
+pub mod SwitchLaws
