@@ -3,3 +3,5 @@ pub mod HeadLaws
 pub mod PartLaws
 pub mod RunLaws
 pub mod SwitchLaws
+pub mod FigureLaws
+pub mod FeedLaws

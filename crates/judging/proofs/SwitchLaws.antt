@@ -1,19 +1,20 @@
 -- A switch's ranges by the masks, and the reader's answer for it. Assumes nothing.
 use mathlib.Core.Path.{_≡_, refl, sym, ap, _∙_}
 use mathlib.Core.Logic.{_⊎_, inl, inr}
-use mathlib.Core.Bool.{Bool, true, false, _&&_, and-true, and-false, and-comm, and-assoc}
+use mathlib.Core.Bool.{Bool, true, false, not, _&&_, and-true, and-false, and-comm, and-assoc}
 use mathlib.Core.List.{List}
 use Prim.Native.Nat.{ℕ, _+_, _*_, _<_, _≤_}
 use native.Mathlib.Omega.{arith}
 use lib.Dec.{ltb, leb, eqb}
 use lib.ListN.{length, getD}
 use borrow.Author.Tests.{lt-ltb, le-ltb, eqb-true}
-use Rattle.words.specs.Loops.{some-of}
+use Rattle.words.specs.Loops.{some-of, unless}
 use Rattle.words.specs.Masks.{in-mask}
 use Rattle.words.proofs.LoopLaws.{passed?, and-split, some-of-cong, some-and}
 use Rattle.records.specs.Units.{last-op, kind-of, inputs, inputs-of, k-fits}
-use Rattle.records.specs.Records.{wire-place, runs-in, record-fault}
-use Rattle.records.specs.Slots.{Masked}
+use Rattle.records.specs.Records.{wire-place, clashes, runs-in, record-fault}
+use Rattle.records.specs.declared.slots.Slots.{Slots}
+use Rattle.records.specs.Slots.{Masked, SlotsOf}
 use Rattle.records.specs.Feeding.{InputMasked}
 use Rattle.records.proofs.ReadingLaws.{Counts, counts-split, record-le}
 use Rattle.records.proofs.NodeLaws.{NodeFits, node-split}
@@ -22,14 +23,14 @@ use Rattle.records.proofs.FedLaws.{inputs-most}
 use Rattle.plans.specs.declared.Plan.{Plan as Header}
 use Rattle.plans.specs.declared.Joint.{Joint}
 use Rattle.plans.specs.Plan.{Plan, Switch, unit-in, node-in, switch-in, plan-format, plan-read}
-use Rattle.plans.specs.Heads.{joint-at}
+use Rattle.plans.specs.Heads.{joint-at, Whole}
 use Rattle.plans.specs.Judging.{switch-fits}
 use Rattle.plans.proofs.ReadLaws.{fold-read, units-read, nodes-read, switches-read}
 use Rattle.plans.proofs.JudgingLaws.{SwitchFits, switch-split}
-use Rattle.plans.proofs.WholeLaws.{switch-so}
+use Rattle.plans.proofs.WholeLaws.{nodes-so, switch-so}
 use Rattle.judging.specs.declared.SwitchRead.{SwitchRead}
 use Rattle.judging.specs.declared.SwitchRead.the-variants as S
-use Rattle.judging.specs.Answers.{as-switch, switch-fault, switch-number, switch-answer, input-of, Fronted, Held, Occupied}
+use Rattle.judging.specs.Answers.{as-switch, switch-fault, switch-number, switch-answer, clash-fault, input-of, Fronted, Held, Occupied}
 
 -- ---- nodes in their ranges
 
@@ -99,6 +100,22 @@ module _ (b : List ℕ) (p : Header) (f : Fronted b p) where
   pub joint-fits : (e : ℕ) → e < p .wires → (j : Joint) → j ≡ joint-at b (9 + 7 * p .units + 9 * p .nodes + 8 * e) →
       switch-fits (plan-read b) (as-switch j) ≡ switch-fits (plan-read b) (switch-in (plan-read b) e)
   joint-fits e l j is = ap (λ (j : Joint). switch-fits (plan-read b) (as-switch j)) is ∙ sym (ap (switch-fits (plan-read b)) (switch-so b p (f .whole) e l))
+
+-- ---- the masks of the plan's nodes
+
+module _ (b : List ℕ) (p : Header) (w : Whole b p) (s : Slots) (is : SlotsOf (p .nodes) (λ x. node-in (plan-read b) x .node) s) where
+  pub slots-occupied : length (s .occupied) ≡ 8 → Occupied (plan-read b) (s .occupied)
+  slots-occupied eight =
+      let pl = plan-read b in
+      record {
+        taken = λ q v. is .taken q v ∙ ap (λ (n : ℕ). some-of n (λ x. runs-in q v (node-in pl x .node))) (nodes-so b p w);
+        small = is .small;
+        eight = eight;
+      }
+
+  pub clash-by-masks : clash-fault (plan-read b) ≡ unless (not (s .clash)) 4
+  unfolding clash-fault
+  clash-by-masks = sym (ap (λ (t : Bool). unless (not t) 4) (is .clash-is ∙ ap (λ (n : ℕ). clashes n (λ x. node-in (plan-read b) x .node)) (nodes-so b p w)))
 
 -- ---- switches in their ranges
 

@@ -10,7 +10,7 @@ ghost use Rattle.records.specs.Feeding.{FedOf};
 ghost use Rattle.plans.specs.Plan.{node-in, plan-read};
 ghost use Rattle.plans.specs.Heads.{Whole};
 ghost use Rattle.plans.specs.Judging.{switch-fits, figures-right};
-ghost use Rattle.judging.specs.Answers.{plan-got, header-answer, plan-answer, front-fault, as-switch, switch-number, switch-answer, switches-fault, clash-fault, fed-fault, figures-fault, nodes-fault, HeaderSaid, Fronted, Held, Occupied, input-of, TapsOf, UnitFigures, unit-right};
+ghost use Rattle.judging.specs.Answers.{plan-got, header-answer, plan-answer, front-fault, as-switch, switch-number, switch-answer, switches-fault, fed-fault, figures-fault, nodes-fault, HeaderSaid, Fronted, Held, Occupied, input-of, TapsOf, UnitFigures, unit-right};
 use plans::Joint;
 use plans::Plan;
 use plans::idle_at;
@@ -244,12 +244,14 @@ fn figures_right(b: &[u8], p: Plan, occupied: &[u32]) -> bool
 fn judge_inputs(b: &[u8], p: Plan, occupied: [u32; 8]) -> Judged
     requires { ⌜ Held (now b) p ⌝ }
     requires { ⌜ Occupied (plan-read (now b)) occupied ⌝ }
-    requires { ⌜ clash-fault (plan-read (now b)) ≡ 0 ⌝ }
     ensures { λ r. ⌜ r ≡ judged (fed-fault (plan-read (now (b .entry))) then figures-fault (plan-read (now (b .entry)))) ⌝ }
 {
     let fed = fed_of(b, p);
+    if fed.twice {
+        return Judged::Refused(Reason::Unfed);
+    }
     let masks = fed.masks;
-    if fed.twice | !units_fed(b, p.unit_run(), occupied, masks) {
+    if !units_fed(b, p.unit_run(), occupied, masks) {
         return Judged::Refused(Reason::Unfed);
     }
     if !figures_right(b, p, &occupied[..]) {

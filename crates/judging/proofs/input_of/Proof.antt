@@ -13,7 +13,7 @@ switch-place-requires : tie.Need-switch-place-requires
 switch-place-requires c κs = search needs
 
 joint-at-requires : tie.Need-joint-at-requires
-joint-at-requires c κs = 
+joint-at-requires c κs =
     let s = c .before .before in
     omega (arith, c .switch-place .ensures, switch-inside _ _ (s .pre .0 .front .whole) (s .args .e) (s .pre .1))
 
@@ -22,7 +22,7 @@ made j = record { unit = j .unit; slot = j .slot; input = j .input }
 
 returns : tie.Need-returns
 unfolding made
-returns c = 
+returns c =
     let s = c .before .before .before in
     ap made (c .joint-at .ensures) ∙ rw (c .before .switch-place .ensures) (sym (ap (λ (w : Switch). record { unit = w .unit; slot = w .slot; input = w .input }) (switch-so _ _ (s .pre .0 .front .whole) (s .args .e) (s .pre .1))))
 

@@ -19,13 +19,13 @@ node-run-requires : tie.Need-node-run-requires
 node-run-requires c κs = search needs
 
 judge-parts-requires : tie.Need-judge-parts-requires
-judge-parts-requires c κs = 
+judge-parts-requires c κs =
     let p = c .before .before in
     let w = p .before in
     runs-inside _ _ (w .before .before .pre) _ _ _ _ (w .switch-run .ensures) (p .place .ensures) (c .before .unit-run .ensures) (c .node-run .ensures)
 
 returns : tie.Need-returns
-returns c = 
+returns c =
     let p = c .before .before .before in
     let w = p .before in
     c .judge-parts .ensures

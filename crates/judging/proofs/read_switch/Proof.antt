@@ -20,7 +20,7 @@ switch-run-requires : tie.Need-switch-run-requires
 switch-run-requires c κs = search needs
 
 marked-requires : tie.Need-marked-requires
-marked-requires c κs = 
+marked-requires c κs =
     let s = c .before .before .before in
     rw (c .switch-run .ensures) (omega (arith, switch-inside _ _ (s .pre .0 .whole) (s .args .e) (s .pre .1 .1)))
 
@@ -38,7 +38,7 @@ switch-place-requires : tie.Need-switch-place-requires
 switch-place-requires c κs = search needs
 
 joint-at-requires : tie.Need-joint-at-requires
-joint-at-requires c κs = 
+joint-at-requires c κs =
     let s = c .before .before .before .before .before .before in
     omega (arith, c .switch-place .ensures, switch-inside _ _ (s .pre .0 .whole) (s .args .e) (s .pre .1 .1))
 
@@ -47,7 +47,7 @@ switch-fits-requires c κs = search needs
 
 returns-2 : tie.Need-returns-2
 unfolding switch-fault
-returns-2 c = 
+returns-2 c =
     let k = c .before in
     let s = c .before .before .before .before .before .before .before .before .before in
     let passed = sym (told (c .before .before .before .before .before)) ∙ not-false _ (c .before .before .before .before .if1 .left) in
@@ -57,7 +57,7 @@ returns-2 c =
 
 returns-3 : tie.Need-returns-3
 unfolding reason-of switch-fault
-returns-3 c = 
+returns-3 c =
     let k = c .before in
     let s = c .before .before .before .before .before .before .before .before .before in
     let passed = sym (told (c .before .before .before .before .before)) ∙ not-false _ (c .before .before .before .before .if1 .left) in

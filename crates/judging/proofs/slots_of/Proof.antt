@@ -17,7 +17,7 @@ node-run-requires : tie.Need-node-run-requires
 node-run-requires c κs = search needs
 
 slots-in-requires : tie.Need-slots-in-requires
-slots-in-requires c κs = 
+slots-in-requires c κs =
     let s = c .before .before in
     let b = s .args .b .now in
     let w = s .pre .whole in
@@ -29,7 +29,7 @@ slots-in-requires c κs =
     )
 
 returns : tie.Need-returns
-returns c = 
+returns c =
     let s = c .before .before .before in
     let r = c .before .node-run .result in
     let n = ap (λ (r : Run). r .count) (c .before .node-run .ensures) in

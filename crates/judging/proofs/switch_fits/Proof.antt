@@ -16,12 +16,12 @@ use Rattle.judging.proofs.switch_fits.Statement.{statement}
 use Rattle.judging.proofs.switch_fits.Tie as tie
 
 returns : tie.Need-returns
-returns c = 
+returns c =
     let s = c .before .before .before .before .before in
     sym (off-unit _ _ (s .pre .0) (as-switch (s .args .j)) (omega (arith, c .if1 .taken, units-so _ _ (s .pre .0 .whole))))
 
 returns-2 : tie.Need-returns-2
-returns-2 c = 
+returns-2 c =
     let s = c .before .before .before .before .before .before .before .before in
     sym (off-turn _ _ (s .pre .0) (as-switch (s .args .j)) (omega (arith, c .if2 .taken, folds-so _ _ (s .pre .0 .whole))))
 
@@ -32,7 +32,7 @@ unit-run-requires : tie.Need-unit-run-requires
 unit-run-requires c κs = search needs
 
 unit-in-requires : tie.Need-unit-in-requires
-unit-in-requires c κs = 
+unit-in-requires c κs =
     let s = c .before .before .before .before .before .before .before .before .before .before in
     unit-ends _ _ (s .pre .0 .whole) (c .unit-run .result) (c .unit-run .ensures) (s .args .j .unit) (c .before .before .before .before .before .if1 .left)
 
@@ -43,17 +43,17 @@ mul-has-slot : tie.Need-mul-has-slot
 mul-has-slot c = search needs
 
 shared-slice-read-has-slot : tie.Need-shared-slice-read-has-slot
-shared-slice-read-has-slot c = 
+shared-slice-read-has-slot c =
     let s = c .before .before .before .before .before .before .before .before .before .before .before .before .before .before .before .before in
     omega (arith, c .before .before .before .before .before .before .before .before .before .before .before .if1 .left, counts-of (s .args .b .now) (s .args .p) (s .pre .0) .units-most, units-so (s .args .b .now) (s .args .p) (s .pre .0 .whole), units-read (s .args .b .now), s .pre .1 .eight)
 
 has-slot-requires : tie.Need-has-slot-requires
-has-slot-requires c κs = 
+has-slot-requires c κs =
     let s = c .before .before .before .before .before .before .before .before .before .before .before .before .before .before .before .before in
     omega (arith, c .before .before .before .before .before .before .before .before .if2 .left, counts-of (s .args .b .now) (s .args .p) (s .pre .0) .fold-most, folds-so (s .args .b .now) (s .args .p) (s .pre .0 .whole), fold-read (s .args .b .now))
 
 returns-3 : tie.Need-returns-3
-returns-3 c = 
+returns-3 c =
     let s = c .before .before .before .before .before .before .before .before .before .before .before .before .before .before .before .before .before in
     let u = c .before .before .before .before .before .before in
     let on = c .before .before .before .before .before .before .before .before .before .before .before .before .if1 .left in
