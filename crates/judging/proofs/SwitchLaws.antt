@@ -28,8 +28,8 @@ use Rattle.plans.specs.Judging.{switch-fits}
 use Rattle.plans.proofs.ReadLaws.{fold-read, units-read, nodes-read, switches-read}
 use Rattle.plans.proofs.JudgingLaws.{SwitchFits, switch-split}
 use Rattle.plans.proofs.WholeLaws.{nodes-so, switch-so}
-use Rattle.judging.specs.declared.SwitchRead.{SwitchRead}
-use Rattle.judging.specs.declared.SwitchRead.the-variants as S
+use Rattle.judging.specs.declared.switches.SwitchRead.{SwitchRead}
+use Rattle.judging.specs.declared.switches.SwitchRead.the-variants as S
 use Rattle.judging.specs.Answers.{as-switch, switch-fault, switch-number, switch-answer, clash-fault, input-of, Fronted, Held, Occupied}
 
 -- ---- nodes in their ranges

@@ -22,8 +22,8 @@ use Rattle.plans.specs.Heads.{plan-head, joint-at, Whole}
 use Rattle.plans.specs.Judging.{most-chain, switch-fits, plan-feeds, longest-tap, idle-slots, figures-right, plan-fault}
 use Rattle.judging.specs.declared.PlanRead.{PlanRead}
 use Rattle.judging.specs.declared.PlanRead.the-variants as P
-use Rattle.judging.specs.declared.SwitchRead.{SwitchRead}
-use Rattle.judging.specs.declared.SwitchRead.the-variants as S
+use Rattle.judging.specs.declared.switches.SwitchRead.{SwitchRead}
+use Rattle.judging.specs.declared.switches.SwitchRead.the-variants as S
 
 -- ---- the whole judging
 

@@ -1,4 +1,4 @@
--- `judging::input_of` meets its contract: the joint names the input. Assumes nothing.
+-- `judging::switches::input_of` meets its contract: the joint names the input. Assumes nothing.
 use mathlib.Core.Path.{sym, ap, _∙_}
 use native.Mathlib.Omega.{arith}
 use Rattle.records.specs.declared.feeding.Input.{Input}
@@ -6,8 +6,8 @@ use Rattle.plans.specs.declared.Joint.{Joint}
 use Rattle.plans.specs.Plan.{Switch}
 use Rattle.plans.proofs.WholeLaws.{switch-inside, switch-so}
 use borrow.Author.Needs.{needs}
-use Rattle.judging.proofs.input_of.Statement.{statement}
-use Rattle.judging.proofs.input_of.Tie as tie
+use Rattle.judging.proofs.switches.input_of.Statement.{statement}
+use Rattle.judging.proofs.switches.input_of.Tie as tie
 
 switch-place-requires : tie.Need-switch-place-requires
 switch-place-requires c κs = search needs

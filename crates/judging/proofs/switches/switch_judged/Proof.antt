@@ -1,13 +1,13 @@
--- `judging::switch_judged` meets its contract. Assumes nothing.
+-- `judging::switches::switch_judged` meets its contract. Assumes nothing.
 use mathlib.Core.Path.{sym, ap, _∙_}
 use Rattle.records.specs.declared.reading.Judged.the-variants as J
 use Rattle.records.specs.Answers.{judged}
 use Rattle.records.proofs.AnswerLaws.{answer-reason}
-use Rattle.judging.specs.declared.SwitchRead.{SwitchRead}
+use Rattle.judging.specs.declared.switches.SwitchRead.{SwitchRead}
 use Rattle.judging.specs.Answers.{switch-number}
 use borrow.Author.Needs.{needs}
-use Rattle.judging.proofs.switch_judged.Statement.{statement}
-use Rattle.judging.proofs.switch_judged.Tie as tie
+use Rattle.judging.proofs.switches.switch_judged.Statement.{statement}
+use Rattle.judging.proofs.switches.switch_judged.Tie as tie
 
 enum-told : tie.Need-enum-told
 enum-told c = search needs

@@ -1,4 +1,4 @@
--- `judging::judge_switches` meets its contract: no switch passed has a fault, and the first that has one is handed up. Assumes nothing.
+-- `judging::switches::judge_switches` meets its contract: no switch passed has a fault, and the first that has one is handed up. Assumes nothing.
 use Prim.Native.Nat.{_≤_, _-_}
 use mathlib.Core.Path.{_≡_, refl, sym, ap, _∙_}
 use native.Mathlib.Omega.{arith}
@@ -12,8 +12,8 @@ use Rattle.judging.specs.Answers.{switch-fault, switch-number}
 use Rattle.plans.proofs.ReadLaws.{switches-read}
 use Rattle.plans.proofs.WholeLaws.{wires-so}
 use Rattle.judging.proofs.SwitchLaws.{switch-told}
-use Rattle.judging.proofs.judge_switches.Statement.{statement}
-use Rattle.judging.proofs.judge_switches.Tie as tie
+use Rattle.judging.proofs.switches.judge_switches.Statement.{statement}
+use Rattle.judging.proofs.switches.judge_switches.Tie as tie
 
 abbrev Inv-loop : tie.InvT-loop
 Inv-loop b p occupied count e₀ e = (e ≤ p .wires) × (first e (switch-fault b) ≡ 0)

@@ -1,4 +1,4 @@
--- `judging::switch_fits` meets its contract: unit and slot are looked up only where they are in range. Assumes nothing.
+-- `judging::switches::switch_fits` meets its contract: unit and slot are looked up only where they are in range. Assumes nothing.
 use mathlib.Core.Path.{_≡_, sym, ap, _∙_}
 use Prim.Native.Nat.{_<_}
 use native.Mathlib.Omega.{arith}
@@ -12,8 +12,8 @@ use Rattle.judging.specs.Answers.{as-switch}
 use Rattle.judging.proofs.RunLaws.{unit-ends, unit-got}
 use Rattle.judging.proofs.SwitchLaws.{counts-of, off-unit, off-turn, on-both}
 use borrow.Author.Needs.{needs}
-use Rattle.judging.proofs.switch_fits.Statement.{statement}
-use Rattle.judging.proofs.switch_fits.Tie as tie
+use Rattle.judging.proofs.switches.switch_fits.Statement.{statement}
+use Rattle.judging.proofs.switches.switch_fits.Tie as tie
 
 returns : tie.Need-returns
 returns c =

@@ -1,4 +1,4 @@
--- `judging::read_switch` meets its contract: the mark's fault stands before the range's. Assumes nothing.
+-- `judging::switches::read_switch` meets its contract: the mark's fault stands before the range's. Assumes nothing.
 use mathlib.Core.Path.{_≡_, refl, sym, ap, _∙_}
 use native.Mathlib.Omega.{arith}
 use borrow.Author.Tests.{not-true, not-false}
@@ -8,13 +8,13 @@ use Rattle.plans.specs.Plan.{plan-format, switch-in, plan-read}
 use Rattle.plans.specs.Heads.{joint-at}
 use Rattle.plans.specs.Judging.{switch-fits}
 use Rattle.plans.proofs.WholeLaws.{switch-inside}
-use Rattle.judging.specs.declared.SwitchRead.the-variants as S
+use Rattle.judging.specs.declared.switches.SwitchRead.the-variants as S
 use Rattle.judging.specs.Answers.{switch-fault}
 use Rattle.judging.proofs.RunLaws.{switch-marked, switch-place-said}
 use Rattle.judging.proofs.SwitchLaws.{joint-fits}
 use borrow.Author.Needs.{needs}
-use Rattle.judging.proofs.read_switch.Statement.{statement}
-use Rattle.judging.proofs.read_switch.Tie as tie
+use Rattle.judging.proofs.switches.read_switch.Statement.{statement}
+use Rattle.judging.proofs.switches.read_switch.Tie as tie
 
 switch-run-requires : tie.Need-switch-run-requires
 switch-run-requires c κs = search needs

@@ -1,4 +1,4 @@
--- `judging::fed_of` meets its contract: the masks hold the inputs that the switches passed feed. Assumes nothing.
+-- `judging::switches::fed_of` meets its contract: the masks hold the inputs that the switches passed feed. Assumes nothing.
 use Prim.Native.Nat.{_<_, _≤_, _-_}
 use mathlib.Core.Path.{_≡_, refl, subst⁻¹}
 use native.Mathlib.Omega.{arith}
@@ -10,8 +10,8 @@ use Rattle.plans.specs.Plan.{plan-read}
 use Rattle.judging.specs.Answers.{input-of}
 use Rattle.plans.proofs.WholeLaws.{wires-so}
 use Rattle.judging.proofs.SwitchLaws.{input-masked}
-use Rattle.judging.proofs.fed_of.Statement.{statement}
-use Rattle.judging.proofs.fed_of.Tie as tie
+use Rattle.judging.proofs.switches.fed_of.Statement.{statement}
+use Rattle.judging.proofs.switches.fed_of.Tie as tie
 
 abbrev Inv-loop : tie.InvT-loop
 Inv-loop b p count twice₀ fed₀ e₀ twice fed e = (e ≤ p .wires) × Feeding (input-of (plan-read b)) e twice fed

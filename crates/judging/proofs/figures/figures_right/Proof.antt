@@ -1,4 +1,4 @@
--- `judging::figures_right` meets its contract: the units passed have the right figures. Assumes nothing.
+-- `judging::figures::figures_right` meets its contract: the units passed have the right figures. Assumes nothing.
 use mathlib.Core.Path.{_≡_, refl, sym, ap, _∙_}
 use mathlib.Core.Bool.{true, false}
 use Prim.Native.Nat.{ℕ, _-_, _<_, _≤_}
@@ -15,8 +15,8 @@ use Rattle.plans.proofs.WholeLaws.{units-so}
 use Rattle.judging.specs.Answers.{unit-right}
 use Rattle.judging.proofs.SwitchLaws.{counts-of}
 use Rattle.judging.proofs.FigureLaws.{figures-of}
-use Rattle.judging.proofs.figures_right.Statement.{statement}
-use Rattle.judging.proofs.figures_right.Tie as tie
+use Rattle.judging.proofs.figures.figures_right.Statement.{statement}
+use Rattle.judging.proofs.figures.figures_right.Tie as tie
 
 abbrev Inv-loop : tie.InvT-loop
 Inv-loop b p occupied taps units q₀ q = (q ≤ p .units) × (every q (unit-right (plan-read b)) ≡ true)

@@ -1,4 +1,4 @@
--- `judging::longest_taps` meets its contract: each tap counts for the unit that it reads. Assumes nothing.
+-- `judging::figures::longest_taps` meets its contract: each tap counts for the unit that it reads. Assumes nothing.
 use mathlib.Core.Path.{_≡_, refl, sym, ap, _∙_, subst}
 use Prim.Native.Nat.{ℕ, _-_, _<_, _≤_}
 use native.Mathlib.Omega.{arith}
@@ -13,8 +13,8 @@ use Rattle.plans.proofs.WholeLaws.{units-so, wires-so, switch-inside, switch-so
 use Rattle.judging.specs.Answers.{TapsOf}
 use Rattle.judging.proofs.SwitchLaws.{counts-of, switch-fit}
 use Rattle.judging.proofs.FigureLaws.{taps-none, taps-more}
-use Rattle.judging.proofs.longest_taps.Statement.{statement}
-use Rattle.judging.proofs.longest_taps.Tie as tie
+use Rattle.judging.proofs.figures.longest_taps.Statement.{statement}
+use Rattle.judging.proofs.figures.longest_taps.Tie as tie
 
 abbrev Inv-loop : tie.InvT-loop
 Inv-loop b p count taps₀ e₀ taps e = (e ≤ p .wires) × (length taps ≡ 8) × TapsOf (plan-read b) e taps

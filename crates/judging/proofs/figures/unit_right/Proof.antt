@@ -1,4 +1,4 @@
--- `judging::unit_right` meets its contract: the two fields are compared with what they must be. Assumes nothing.
+-- `judging::figures::unit_right` meets its contract: the two fields are compared with what they must be. Assumes nothing.
 use mathlib.Core.Path.{_≡_, ap₂, _∙_}
 use mathlib.Core.Bool.{Bool, _&&_}
 use Prim.Native.Nat.{ℕ, _-_}
@@ -8,8 +8,8 @@ use Rattle.plans.specs.Plan.{plan-read}
 use Rattle.plans.proofs.WholeLaws.{folds-so, unit-inside}
 use Rattle.judging.proofs.FigureLaws.{ones-most, figures-so}
 use borrow.Author.Needs.{needs}
-use Rattle.judging.proofs.unit_right.Statement.{statement}
-use Rattle.judging.proofs.unit_right.Tie as tie
+use Rattle.judging.proofs.figures.unit_right.Statement.{statement}
+use Rattle.judging.proofs.figures.unit_right.Tie as tie
 
 unit-place-requires : tie.Need-unit-place-requires
 unit-place-requires c κs = search needs
