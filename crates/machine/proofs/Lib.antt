@@ -1,2 +1,3 @@
 -- Laws.
 pub mod SteppingLaws
+pub mod CallLaws
