@@ -1,3 +1,4 @@
 -- Laws.
 pub mod SteppingLaws
 pub mod CallLaws
+pub mod OneResult
