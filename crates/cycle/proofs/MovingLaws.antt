@@ -17,7 +17,8 @@ use Rattle.cycle.specs.declared.Lines.{Lines}
 use Rattle.cycle.specs.Taken.{Taken, LinesOf, shifted}
 use Rattle.cycle.specs.Given.{ResultsOf}
 use Rattle.cycle.specs.Moving.{wiped, moved-by, advanced}
-use Rattle.cycle.proofs.TakenLaws.{units-so, unit-fine}
+use Rattle.plans.proofs.WholeLaws.{units-so}
+use Rattle.cycle.proofs.TakenLaws.{whole-taken, unit-fine}
 use Rattle.cycle.proofs.MemoryLaws.{base-next, length-blocks}
 
 -- ---- words at the head of a slice
@@ -116,14 +117,14 @@ module _ (p : Plan) (m r : List ℕ) (room : size p ≤ length m) where
 
 module _ (b : List ℕ) (p : Head.Plan) (t : Taken b p) (lines : Lines) (so : LinesOf (plan-read b) lines) where
   at-line : (q : ℕ) → q < p .units → getD (lines .at) q 0 ≡ suc (base (plan-read b) q)
-  at-line q h = so .at q (omega (arith, units-so b p t))
+  at-line q h = so .at q (omega (arith, units-so b p (whole-taken t)))
 
   -- a unit has a place, and all lie in the memory
   pub line-inside : (q n : ℕ) → q < p .units → n ≡ places (plan-read b) q → (0 < n) × (getD (lines .at) q 0 + n ≤ size (plan-read b))
   unfolding size
   line-inside q n h is =
       let pl = plan-read b in
-      (omega (arith, unit-fine b p t q h .deep), omega (arith, at-line q h, base-next pl q (length (pl .units)) (omega (arith, units-so b p t))))
+      (omega (arith, unit-fine b p t q h .deep), omega (arith, at-line q h, base-next pl q (length (pl .units)) (omega (arith, units-so b p (whole-taken t)))))
 
   -- place P − 1
   pub last-place : (q depth : ℕ) → q < p .units → depth ≡ unit-in (plan-read b) q .unit .depth →

@@ -16,7 +16,7 @@ use Rattle.words.proofs.LoopLaws.{passed?, and-split, and-join, bool-ext, every
 use Rattle.records.specs.declared.Node.{Node}
 use Rattle.records.specs.Units.{op-port, kind-of, inputs-of, value, word-before}
 use Rattle.records.specs.Records.{at, runs-in, fed-once}
-use Rattle.records.specs.Slots.{channel-of}
+use Rattle.records.specs.Answers.{channel-of}
 use Rattle.records.proofs.NodeLaws.{clash-apart, inputs-few}
 use Rattle.plans.specs.declared.Plan as Head
 use Rattle.plans.specs.Plan.{Plan, node-in, switch-in, plan-read}
@@ -24,7 +24,8 @@ use Rattle.plans.specs.Judging.{switched, plan-feeds}
 use Rattle.cycle.specs.Cycle.{through, input-word, worked, result}
 use Rattle.cycle.specs.Taken.{Taken, last-of, Gathered, in-slot, input-place, tapped}
 use Rattle.cycle.specs.Given.{node-in-slot, node-unit, given, ResultsOf}
-use Rattle.cycle.proofs.TakenLaws.{judgement, nodes-so, units-so, wires-so, few-units, switch-fine}
+use Rattle.plans.proofs.WholeLaws.{nodes-so, units-so, wires-so}
+use Rattle.cycle.proofs.TakenLaws.{whole-taken, judgement, few-units, switch-fine}
 use Rattle.cycle.proofs.LastLaws.{Only, last-cong, last-lowest, one-only}
 
 -- a switch feeds an input of a unit in a slot exactly where its place is that input's
@@ -71,7 +72,7 @@ module _ (b : List ℕ) (p : Head.Plan) (t : Taken b p) where
   switch-only q v i e d he hd te td =
       let pl = plan-read b in
       let s = switched-split pl q v i e te in
-      let f = switch-fine b p t e (omega (arith, wires-so b p t)) in
+      let f = switch-fine b p t e (omega (arith, wires-so b p (whole-taken t))) in
       let n = node-in pl (f .node) .node in
       let w = switch-in pl e in
       let r = and-split (eqb (n .unit) (w .unit)) (eqb (n .slot) (w .slot)) (f .runs) in
@@ -87,7 +88,7 @@ module _ (b : List ℕ) (p : Head.Plan) (t : Taken b p) where
       let pl = plan-read b in
       let here : ℕ → Bool = λ e. in-slot pl v e && eqb (input-place pl e) (2 * q + i) in
       gathered (2 * q + i) (omega arith)
-      ∙ ap (λ (n : ℕ). last-of n here (tapped pl m)) (wires-so b p t)
+      ∙ ap (λ (n : ℕ). last-of n here (tapped pl m)) (wires-so b p (whole-taken t))
       ∙ last-cong (length (pl .switches)) here (switched pl q v i) (tapped pl m) (λ e he. same e he)
       ∙ last-lowest (length (pl .switches)) (switched pl q v i) (tapped pl m) (through pl m) (switch-only q v i) refl (λ e he te. refl)
     where
@@ -96,7 +97,7 @@ module _ (b : List ℕ) (p : Head.Plan) (t : Taken b p) where
       same e he =
           let pl = plan-read b in
           let w = switch-in pl e in
-          let f = switch-fine b p t e (omega (arith, wires-so b p t)) in
+          let f = switch-fine b p t e (omega (arith, wires-so b p (whole-taken t))) in
           let few = inputs-few (kind-of (node-in pl (f .node) .node .op)) in
           bool-ext (in-slot pl v e && eqb (input-place pl e) (2 * q + i)) (switched pl q v i e)
           (λ h.
@@ -132,7 +133,7 @@ module _ (b : List ℕ) (p : Head.Plan) (t : Taken b p) where
       let gives = given pl (at m 0) c words in
       let runs : ℕ → Bool = λ x. runs-in q v (node-in pl x .node) in
       let here : ℕ → Bool = λ x. node-in-slot pl v x && eqb (node-unit pl x) q in
-      gathered q (omega (arith, units-so b p t, few-units b p t))
-      ∙ ap (λ (n : ℕ). last-of n here gives) (nodes-so b p t)
+      gathered q (omega (arith, units-so b p (whole-taken t), few-units b p t))
+      ∙ ap (λ (n : ℕ). last-of n here gives) (nodes-so b p (whole-taken t))
       ∙ last-cong (length (pl .nodes)) here runs gives (λ x hx. and-comm (node-in-slot pl v x) (eqb (node-unit pl x) q))
-      ∙ last-lowest (length (pl .nodes)) runs gives (worked pl m c q) (node-only q v) refl (λ x hx tx. given-so m c words inputs q x (omega (arith, units-so b p t, few-units b p t)) tx)
+      ∙ last-lowest (length (pl .nodes)) runs gives (worked pl m c q) (node-only q v) refl (λ x hx tx. given-so m c words inputs q x (omega (arith, units-so b p (whole-taken t), few-units b p t)) tx)

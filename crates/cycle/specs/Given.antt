@@ -9,7 +9,7 @@ use lib.IntN.{ℤ}
 use Rattle.records.specs.declared.Node.{Node}
 use Rattle.records.specs.Units.{value, word-before}
 use Rattle.records.specs.Records.{at}
-use Rattle.records.specs.Slots.{channel-of}
+use Rattle.records.specs.Answers.{channel-of}
 use Rattle.plans.specs.Plan.{Plan, node-in}
 use Rattle.cycle.specs.Cycle.{result}
 

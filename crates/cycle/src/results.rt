@@ -5,7 +5,7 @@ ghost use Prim.Native.Nat.{_/_, _%_, _<_, _≤_};
 ghost use lib.ListN.{length};
 ghost use Rattle.records.specs.Units.{channels, k-fits};
 ghost use Rattle.records.specs.Records.{at};
-ghost use Rattle.records.specs.Slots.{channel-of};
+ghost use Rattle.records.specs.Answers.{channel-of};
 ghost use Rattle.plans.specs.Plan.{node-in, plan-read};
 ghost use Rattle.cycle.specs.Taken.{Taken, Ready, Gathered};
 ghost use Rattle.cycle.specs.Given.{node-in-slot, node-unit, begun-by, given, ResultsOf};

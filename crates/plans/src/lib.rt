@@ -3,7 +3,7 @@ ghost use mathlib.Core.Path.{_≡_};
 ghost use Prim.Native.Nat.{_+_, _*_, _%_, _<_, _≤_};
 ghost use lib.ListN.{length};
 ghost use lib.IntN.{pos};
-ghost use Rattle.records.specs.Records.{two};
+ghost use Rattle.records.specs.Records.{at, two};
 ghost use Rattle.records.specs.Answers.{unit-run, node-run, wire-run};
 ghost use Rattle.plans.specs.Plan.{plan-format};
 ghost use Rattle.plans.specs.Heads.{joint-at};
@@ -43,6 +43,9 @@ impl Plan {
     pub const SWITCH: usize = 8;
 
     pub const LOOP: usize = 3;
+
+    // The place of the chain in the header, and the most that it may be.
+    pub const CHAIN: usize = 8;
 
     pub const MOST_CHAIN: u8 = 47;
 
@@ -131,6 +134,14 @@ pub fn line_at(b: &[u8], at: usize) -> Cycles
     ensures { λ r. ⌜ r .0 ≡ pos (two (now (b .entry)) (at + 4)) ⌝ }
 {
     Cycles::of_bytes(b[at + 4], b[at + 5])
+}
+
+// The idle count of the unit at a place.
+pub fn idle_at(b: &[u8], o: usize) -> u8
+    requires { ⌜ o + 7 ≤ length (now b) ⌝ }
+    ensures { λ r. ⌜ r ≡ at (now (b .entry)) (o + 6) ⌝ }
+{
+    b[o + 6]
 }
 
 pub fn start_at(b: &[u8], at: usize) -> Iterations

@@ -8,7 +8,8 @@ use borrow.Author.Needs.{needs}
 use Rattle.records.specs.Records.{at}
 use Rattle.plans.specs.Plan.{plan-read}
 use Rattle.cycle.specs.Cycle.{places, size}
-use Rattle.cycle.proofs.TakenLaws.{few-units, unit-inside, units-so, places-so}
+use Rattle.plans.proofs.WholeLaws.{unit-inside, units-so}
+use Rattle.cycle.proofs.TakenLaws.{whole-taken, few-units, places-so}
 use Rattle.cycle.proofs.MovingLaws.{moved-to, moved-none, moved-more, moved-all, line-inside}
 use Rattle.cycle.proofs.moving.advance.Statement.{statement}
 use Rattle.cycle.proofs.moving.advance.Tie as tie
@@ -38,7 +39,7 @@ unit-place-requires c κs = let s = c .before .before .before .before .before .b
 places-at-requires : tie.Need-places-at-requires Inv-loop μ-loop
 places-at-requires c κs =
     let s = c .before .before .before .before .before .before .before in
-    omega (arith, c .unit-place .ensures, unit-inside (s .args .plan .now) (s .args .p) (s .pre .0 .taken) (c .before .before .before .loop .q) (c .before .before .loop-test .taken))
+    omega (arith, c .unit-place .ensures, unit-inside (s .args .plan .now) (s .args .p) (whole-taken (s .pre .0 .taken)) (c .before .before .before .loop .q) (c .before .before .loop-test .taken))
 
 mul-shift : tie.Need-mul-shift Inv-loop μ-loop
 mul-shift c = search needs
@@ -69,9 +70,9 @@ loop-again c =
     let s = c .before .before .before .before .before .before .before .before .before .before .before .before in
     let l = c .before .before .before .before .before .before .before .before .loop in
     let call = c .before .before .before in
-    let more = moved-more (plan-read (s .args .plan .now)) (s .args .memory .now) (s .args .t5) (s .pre .0 .room) (l .q) (omega (arith, c .before .before .before .before .before .before .before .loop-test .taken, units-so (s .args .plan .now) (s .args .p) (s .pre .0 .taken)))
+    let more = moved-more (plan-read (s .args .plan .now)) (s .args .memory .now) (s .args .t5) (s .pre .0 .room) (l .q) (omega (arith, c .before .before .before .before .before .before .before .loop-test .taken, units-so (s .args .plan .now) (s .args .p) (whole-taken (s .pre .0 .taken))))
     (l .memory) (getD (s .args .t3 .at) (l .q) 0) (call .before .places-at .result) (getD (s .args .t5) (l .q) 0) (l .inv .1)
-    (s .pre .0 .lines-so .at (l .q) (omega (arith, c .before .before .before .before .before .before .before .loop-test .taken, units-so (s .args .plan .now) (s .args .p) (s .pre .0 .taken)))) (places-are (call .before)) refl in
+    (s .pre .0 .lines-so .at (l .q) (omega (arith, c .before .before .before .before .before .before .before .loop-test .taken, units-so (s .args .plan .now) (s .args .p) (whole-taken (s .pre .0 .taken))))) (places-are (call .before)) refl in
     (omega (arith, c .before .before .before .before .before .before .before .loop-test .taken), c .before .before .shift .ensures ∙ more, c .before .before .shift .kept .0 ∙ l .inv .2)
 
 slice-read-memory : tie.Need-slice-read-memory Inv-loop μ-loop
@@ -93,7 +94,7 @@ returns c =
     let s = c .before .before .before .before .before .before in
     let l = c .before .before .loop in
     moved-all (plan-read (s .args .plan .now)) (s .args .memory .now) (s .args .t5) (s .pre .0 .room) (l .q) (l .memory)
-    (omega (arith, l .inv .0, c .before .loop-test .left, units-so (s .args .plan .now) (s .args .p) (s .pre .0 .taken))) (l .inv .1)
+    (omega (arith, l .inv .0, c .before .loop-test .left, units-so (s .args .plan .now) (s .args .p) (whole-taken (s .pre .0 .taken)))) (l .inv .1)
 
 pub advance-spec : {M : Type 1} → statement M
 advance-spec =

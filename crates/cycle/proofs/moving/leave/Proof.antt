@@ -9,7 +9,8 @@ use Rattle.words.specs.Loops.{tab}
 use Rattle.records.specs.Records.{at}
 use Rattle.plans.specs.Plan.{plan-read}
 use Rattle.cycle.specs.Cycle.{reading}
-use Rattle.cycle.proofs.TakenLaws.{few-units, units-so}
+use Rattle.plans.proofs.WholeLaws.{units-so}
+use Rattle.cycle.proofs.TakenLaws.{whole-taken, few-units}
 use Rattle.cycle.proofs.MovingLaws.{head-none, head-more, head-leaving, last-place}
 use Rattle.cycle.proofs.moving.leave.Statement.{statement}
 use Rattle.cycle.proofs.moving.leave.Tie as tie
@@ -90,7 +91,7 @@ returns : tie.Need-returns Inv-loop μ-loop
 returns c =
     let s = c .before .before .before .before .before .before in
     let l = c .before .loop in
-    head-leaving (plan-read (s .args .plan .now)) (s .args .memory .now) (s .args .out .now) (l .out) (l .q) (omega (arith, l .inv .0, c .loop-test .left, units-so (s .args .plan .now) (s .args .p) (s .pre .0 .taken))) (l .inv .1)
+    head-leaving (plan-read (s .args .plan .now)) (s .args .memory .now) (s .args .out .now) (l .out) (l .q) (omega (arith, l .inv .0, c .loop-test .left, units-so (s .args .plan .now) (s .args .p) (whole-taken (s .pre .0 .taken)))) (l .inv .1)
 
 pub leave-spec : {M : Type 1} → statement M
 leave-spec =

@@ -5,7 +5,8 @@ use mir.Syntax.{w16}
 use mir.Val.{SFits}
 use mir.ValLaws.{toZ-ofZ}
 use Rattle.words.proofs.Ints.{from-pos}
-use Rattle.cycle.proofs.TakenLaws.{node-inside}
+use Rattle.plans.proofs.WholeLaws.{node-inside}
+use Rattle.cycle.proofs.TakenLaws.{whole-taken}
 use Rattle.cycle.proofs.GivenLaws.{turns, below-start}
 use borrow.Author.Needs.{needs}
 use Rattle.cycle.proofs.results.begun_by.Statement.{statement}
@@ -20,7 +21,7 @@ node-place-requires c κs = search needs
 start-at-requires : tie.Need-start-at-requires
 start-at-requires c κs =
     let s = c .before .before in
-    omega (arith, c .node-place .ensures, node-inside (s .args .plan .now) (s .args .p) (s .pre .0) (s .args .x) (s .pre .1))
+    omega (arith, c .node-place .ensures, node-inside (s .args .plan .now) (s .args .p) (whole-taken (s .pre .0)) (s .args .x) (s .pre .1))
 
 ahead-requires : tie.Need-ahead-requires
 ahead-requires c κs =

@@ -6,7 +6,8 @@ use Rattle.records.specs.Records.{at}
 use Rattle.plans.specs.Plan.{plan-read}
 use Rattle.cycle.specs.Cycle.{size}
 use Rattle.cycle.specs.Taken.{Gathered, in-slot, input-place, tapped}
-use Rattle.cycle.proofs.TakenLaws.{folds-so}
+use Rattle.plans.proofs.WholeLaws.{folds-so}
+use Rattle.cycle.proofs.TakenLaws.{whole-taken}
 use Rattle.cycle.proofs.GivenLaws.{turns}
 use Rattle.cycle.proofs.ResultLaws.{results-so}
 use borrow.Author.Needs.{needs}
@@ -34,7 +35,7 @@ returns c =
     let m = s .args .memory .now in
     let pl = plan-read b in
     let words = c .before .inputs-in in
-    let turn = c .before .before .slot-at .ensures ∙ ap (λ (n : ℕ). at m 0 % n) (folds-so b p (s .pre .0 .taken)) in
+    let turn = c .before .before .slot-at .ensures ∙ ap (λ (n : ℕ). at m 0 % n) (folds-so b p (whole-taken (s .pre .0 .taken))) in
     results-so b p (s .pre .0 .taken) m (s .args .samples .now) (words .result) (c .results-in .result)
     (subst (λ (v : ℕ). Gathered (p .wires) (in-slot pl v) (input-place pl) (tapped pl m) 16 (words .result)) turn (words .ensures)) (c .results-in .ensures)
 

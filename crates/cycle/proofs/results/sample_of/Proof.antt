@@ -2,7 +2,7 @@
 use mathlib.Core.Path.{ap}
 use native.Mathlib.Omega.{arith}
 use Rattle.records.specs.Records.{at}
-use Rattle.records.proofs.SlotLaws.{channel-below}
+use Rattle.records.proofs.NodeLaws.{channel-below}
 use borrow.Author.Needs.{needs}
 use Rattle.cycle.proofs.results.sample_of.Statement.{statement}
 use Rattle.cycle.proofs.results.sample_of.Tie as tie
