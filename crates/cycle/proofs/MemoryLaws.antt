@@ -29,7 +29,7 @@ base-next p q n h = base-mono p (suc q) n h
 -- ---- blocks of the units' lengths, one after the other
 
 module _ (p : Plan) (f : ℕ → List ℕ) (len : (q : ℕ) → q < length (p .units) → length (f q) ≡ places p q) where
-  length-blocks : (n : ℕ) → n ≤ length (p .units) → length (blocks f n) ≡ base p n
+  pub length-blocks : (n : ℕ) → n ≤ length (p .units) → length (blocks f n) ≡ base p n
   unfolding blocks base
   length-blocks zero h = refl
   length-blocks (suc n) h = simp length-append (omega (arith, length-blocks n (omega arith), len n h))

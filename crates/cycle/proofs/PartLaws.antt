@@ -24,7 +24,8 @@ use Rattle.plans.proofs.JudgingLaws.{longest-tap-ge}
 use Rattle.cycle.specs.declared.Lines.{Lines}
 use Rattle.cycle.specs.Cycle.{base, places, size}
 use Rattle.cycle.specs.Taken.{Taken, LinesOf, last-of, Gathered, input-place, tapped-place}
-use Rattle.cycle.proofs.TakenLaws.{few-units, places-so, units-so, wires-so, unit-so, switch-so, unit-fine, switch-fine, line-so}
+use Rattle.plans.proofs.WholeLaws.{units-so, wires-so, unit-so, switch-so}
+use Rattle.cycle.proofs.TakenLaws.{whole-taken, few-units, places-so, unit-fine, switch-fine, line-so}
 use Rattle.cycle.proofs.MemoryLaws.{base-next}
 
 module _ (b : List ℕ) (p : Head.Plan) (t : Taken b p) where
@@ -64,10 +65,10 @@ module _ (chosen : ℕ → Bool) (place brings : ℕ → ℕ) (many n : ℕ) (l 
 
 module _ (b : List ℕ) (p : Head.Plan) (t : Taken b p) where
   pub depth-so : (q : ℕ) → q < p .units → (unit-in (plan-read b) q .unit .depth ≡ at b (9 + 7 * q + 3)) × (0 < unit-in (plan-read b) q .unit .depth)
-  depth-so q h = (ap (λ (u : PlanUnit). u .unit .depth) (unit-so b p t q h), unit-fine b p t q h .deep)
+  depth-so q h = (ap (λ (u : PlanUnit). u .unit .depth) (unit-so b p (whole-taken t) q h), unit-fine b p t q h .deep)
 
   pub source-so : (e : ℕ) → e < p .wires → (switch-in (plan-read b) e .source ≡ at b (9 + 7 * p .units + 9 * p .nodes + 8 * e + 5)) × (switch-in (plan-read b) e .source < p .units)
-  source-so e h = (ap (λ (w : Switch). w .source) (switch-so b p t e h), omega (arith, switch-fine b p t e h .from-unit, units-so b p t))
+  source-so e h = (ap (λ (w : Switch). w .source) (switch-so b p (whole-taken t) e h), omega (arith, switch-fine b p t e h .from-unit, units-so b p (whole-taken t)))
 
   -- the place lies in the memory
   pub place-inside : (e : ℕ) → e < p .wires →
@@ -76,8 +77,8 @@ module _ (b : List ℕ) (p : Head.Plan) (t : Taken b p) where
       let pl = plan-read b in
       let q = switch-in pl e .source in
       let few = source-so e h .1 in
-      let long = longest-tap-ge (length (pl .switches)) (switch-in pl) e (omega (arith, wires-so b p t)) in
-      omega (arith, line-so b p t q few, depth-so q few .1, base-next pl q (length (pl .units)) (omega (arith, units-so b p t)))
+      let long = longest-tap-ge (length (pl .switches)) (switch-in pl) e (omega (arith, wires-so b p (whole-taken t))) in
+      omega (arith, line-so b p t q few, depth-so q few .1, base-next pl q (length (pl .units)) (omega (arith, units-so b p (whole-taken t))))
 
   -- the index that the code works out, from what it read of the plan, is that place
   pub place-read : (lines : Lines) → LinesOf (plan-read b) lines → (e : ℕ) → e < p .wires → (source depth : ℕ) (tap : ℤ) (place : ℕ) →
@@ -88,7 +89,7 @@ module _ (b : List ℕ) (p : Head.Plan) (t : Taken b p) where
       let pl = plan-read b in
       let q = switch-in pl e .source in
       let few = source-so e h .1 in
-      let at-q : getD (lines .at) source 0 ≡ suc (base pl q) = ap (λ (z : ℕ). getD (lines .at) z 0) es ∙ so .at q (omega (arith, units-so b p t)) in
+      let at-q : getD (lines .at) source 0 ≡ suc (base pl q) = ap (λ (z : ℕ). getD (lines .at) z 0) es ∙ so .at q (omega (arith, units-so b p (whole-taken t))) in
       let deep : depth ≡ unit-in pl q .unit .depth = ed ∙ ap (λ (z : ℕ). unit-in pl z .unit .depth) es in
       let far : natAbs tap ≡ switch-in pl e .tap = ap natAbs et in
       let is : getD (lines .at) source 0 + place ≡ suc (base pl q + (unit-in pl q .unit .depth - 1 + switch-in pl e .tap)) = omega arith in
@@ -101,8 +102,8 @@ module _ (b : List ℕ) (p : Head.Plan) (t : Taken b p) where
       let w = switch-in (plan-read b) e in
       let f = switch-fine b p t e h in
       let few = inputs-few (kind-of (node-in (plan-read b) (f .node) .node .op)) in
-      let so = switch-so b p t e h in (
+      let so = switch-so b p (whole-taken t) e h in (
         ap (λ (j : Joint). j .slot) is ∙ sym (ap (λ (w : Switch). w .slot) so),
         ap (λ (j : Joint). 2 * j .unit + j .input) is ∙ sym (ap (λ (w : Switch). 2 * w .unit + w .input) so),
-        omega (arith, f .on-unit, f .input-fits, few, units-so b p t, few-units b p t),
+        omega (arith, f .on-unit, f .input-fits, few, units-so b p (whole-taken t), few-units b p t),
       )

@@ -9,9 +9,13 @@ ghost use Rattle.cycle.specs.Taken.{Taken, LinesOf, Ready, Gathered, in-
 ghost use Rattle.cycle.specs.Cycle.{size};
 
 pub mod moving;
+pub mod results;
 
 use plans::Plan;
 use words::time::Cycles;
+
+// The word of every node before its first.
+pub const WORD_BEFORE: u32 = 0;
 
 // Where the places of each unit begin in memory, and how many words the memory has.
 pub struct Lines {

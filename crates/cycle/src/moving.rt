@@ -1,8 +1,47 @@
-// Places that move by one. A line is moved in one pass, from its oldest place down, so that the compiled loop is one block move.
+// What clearing and a step write: places that move by one, the leaving words, cleared words. A line is moved in one pass, from its
+// oldest place down, so that the compiled loop is one block move.
 ghost use mathlib.Core.Path.{_≡_};
-ghost use Prim.Native.Nat.{_+_, _<_, _≤_};
+ghost use Prim.Native.Nat.{_+_, _^_, _<_, _≤_};
 ghost use lib.ListN.{length};
-ghost use Rattle.cycle.specs.Taken.{shifted};
+ghost use Rattle.records.specs.Records.{at, over};
+ghost use Rattle.plans.specs.Plan.{plan-read};
+ghost use Rattle.cycle.specs.Cycle.{leaving};
+ghost use Rattle.cycle.specs.Taken.{Ready, shifted};
+ghost use Rattle.cycle.specs.Moving.{wiped, advanced};
+use crate::Lines;
+use crate::WORD_BEFORE;
+use crate::depth_of;
+use crate::places_at;
+use plans::Plan;
+
+// Clearing: t and the places behind it, n words in all.
+pub fn wipe(memory: &mut [u32], n: usize)
+    requires { ⌜ (0 < n) × (n ≤ length (now memory)) ⌝ }
+    ensures { λ r. ⌜ now (memory .exit) ≡ wiped (now (memory .entry)) n ⌝ }
+{
+    let mut i = 0;
+    while i < n {
+        memory[i] = WORD_BEFORE;
+        i += 1;
+    }
+    memory[0] = 0;
+}
+
+// The words leaving now go to the output, one per unit.
+pub fn leave(plan: &[u8], p: Plan, lines: Lines, memory: &[u32], out: &mut [u32])
+    requires { ⌜ Ready (now plan) p lines (now memory) ⌝ }
+    requires { ⌜ p .units ≤ length (now out) ⌝ }
+    ensures { λ r. ⌜ now (out .exit) ≡ over (leaving (plan-read (now (plan .entry))) (now (memory .entry))) (now (out .entry)) ⌝ }
+{
+    let units = p.units as usize;
+    let mut q = 0;
+    while q < units {
+        let from = lines.at[q];
+        let last = depth_of(plan, p, q) as usize - 1;
+        out[q] = memory[from + last];
+        q += 1;
+    }
+}
 
 // The n places from `from` on move by one, and x is the new first.
 pub fn shift(memory: &mut [u32], from: usize, n: usize, x: u32)
@@ -15,4 +54,21 @@ pub fn shift(memory: &mut [u32], from: usize, n: usize, x: u32)
         i -= 1;
     }
     memory[from] = x;
+}
+
+// Each unit's places move by one, its result first, and t rises by 1.
+pub fn advance(plan: &[u8], p: Plan, lines: Lines, memory: &mut [u32], results: [u32; 8])
+    requires { ⌜ Ready (now plan) p lines (now memory) ⌝ }
+    requires { ⌜ at (now memory) 0 + 1 < 2 ^ 32 ⌝ }
+    ensures { λ r. ⌜ now (memory .exit) ≡ advanced (plan-read (now (plan .entry))) (now (memory .entry)) results ⌝ }
+{
+    let units = p.units as usize;
+    let mut q = 0;
+    while q < units {
+        let from = lines.at[q];
+        let n = places_at(plan, p.unit_place(q));
+        shift(memory, from, n, results[q]);
+        q += 1;
+    }
+    memory[0] += 1;
 }

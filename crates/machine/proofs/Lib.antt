@@ -1,2 +1,4 @@
 -- Laws.
 pub mod SteppingLaws
+pub mod CallLaws
+pub mod OneResult

@@ -5,14 +5,15 @@ use mathlib.Core.Bool.{Bool, true, false, not, cond, _&&_}
 use mathlib.Core.List.{List}
 use Prim.Native.Nat.{ℕ, _<_, _≤_}
 use native.Mathlib.Omega.{arith}
-use lib.Dec.{leb, eqb}
+use lib.Dec.{ltb, leb, eqb}
 use lib.ListN.{length}
-use borrow.Author.Tests.{eq-eqb}
-use Rattle.words.specs.Loops.{largest, unless, _then_}
-use Rattle.words.proofs.LoopLaws.{passed?, largest-ge}
+use borrow.Author.Tests.{ltb-true, eq-eqb}
+use Rattle.words.specs.Loops.{some-of, largest, unless, _then_}
+use Rattle.words.proofs.LoopLaws.{passed?, and-split, largest-ge}
+use Rattle.words.proofs.CountLaws.{some-found}
 use Rattle.words.proofs.FaultLaws.{then-split, then-join, then-one, then-le, unless-true, unless-ok, unless-le, not-true}
-use Rattle.records.specs.Units.{unit-fits}
-use Rattle.records.specs.Records.{counts-fit, reading-fault, node-fits, clashes, fed-once}
+use Rattle.records.specs.Units.{unit-fits, inputs-of}
+use Rattle.records.specs.Records.{counts-fit, reading-fault, node-fits, clashes, runs-in, fed-once}
 use Rattle.records.proofs.ReadingLaws.{Read, read, faultless, reading-le}
 use Rattle.plans.specs.Plan.{Plan, Switch, unit-in, node-in, switch-in, plan-format}
 use Rattle.plans.specs.Judging.{most-chain, switch-fits, plan-feeds, longest-tap, figures-right, plan-faults}
@@ -95,3 +96,35 @@ unfolding longest-tap
 longest-tap-ge n w e h =
     let a = largest-ge n (λ i. cond (eqb (w i .source) (w e .source)) (w i .tap) 0) e h in
     subst (λ (b : Bool). cond b (w e .tap) 0 ≤ largest n (λ i. cond (eqb (w i .source) (w e .source)) (w i .tap) 0)) (eq-eqb (w e .source) (w e .source) refl) a
+
+-- a switch names a unit, a source, and an input of a node that runs there
+pub record SwitchFits (p : Plan) (w : Switch) : Type 0 where
+  pub on-unit : w .unit < length (p .units)
+  pub in-turn : w .slot < p .fold
+  pub from-unit : w .source < length (p .units)
+  pub node : ℕ
+  pub is-node : node < length (p .nodes)
+  pub runs : runs-in (w .unit) (w .slot) (node-in p node .node) ≡ true
+  pub input-fits : w .input < inputs-of (node-in p node .node .op)
+
+pub switch-split : (p : Plan) (w : Switch) → switch-fits p w ≡ true → SwitchFits p w
+switch-split p w h =
+    let a = ltb (w .unit) (length (p .units)) in
+    let b = ltb (w .slot) (p .fold) in
+    let c = ltb (w .source) (length (p .units)) in
+    let here : ℕ → Bool = λ x. runs-in (w .unit) (w .slot) (node-in p x .node) && ltb (w .input) (inputs-of (node-in p x .node .op)) in
+    let t3 = and-split (a && b && c) (some-of (length (p .nodes)) here) h in
+    let t2 = and-split (a && b) c (t3 .0) in
+    let t1 = and-split a b (t2 .0) in
+    let f = some-found (length (p .nodes)) here (t3 .1) in
+    let n = node-in p (f .0) .node in
+    let both = and-split (runs-in (w .unit) (w .slot) n) (ltb (w .input) (inputs-of (n .op))) (f .2) in
+    record {
+      on-unit = ltb-true (w .unit) (length (p .units)) (t1 .0);
+      in-turn = ltb-true (w .slot) (p .fold) (t1 .1);
+      from-unit = ltb-true (w .source) (length (p .units)) (t2 .1);
+      node = f .0;
+      is-node = f .1;
+      runs = both .0;
+      input-fits = ltb-true (w .input) (inputs-of (n .op)) (both .1);
+    }

@@ -3,3 +3,4 @@ pub mod ConcatLaws
 pub mod PlanBytes
 pub mod JudgingLaws
 pub mod ReadLaws
+pub mod WholeLaws

@@ -1,10 +1,13 @@
 // Plans: the constants of their records, where each stands, and what it says.
 ghost use mathlib.Core.Path.{_≡_};
-ghost use Prim.Native.Nat.{_+_, _*_, _≤_};
+ghost use Prim.Native.Nat.{_+_, _*_, _%_, _<_, _≤_};
 ghost use lib.ListN.{length};
 ghost use lib.IntN.{pos};
-ghost use Rattle.records.specs.Records.{two};
+ghost use Rattle.records.specs.Records.{at, two};
+ghost use Rattle.records.specs.Answers.{unit-run, node-run, wire-run};
+ghost use Rattle.plans.specs.Plan.{plan-format};
 ghost use Rattle.plans.specs.Heads.{joint-at};
+use records::reading::Run;
 use words::time::Cycles;
 use words::time::Iterations;
 
@@ -41,6 +44,9 @@ impl Plan {
 
     pub const LOOP: usize = 3;
 
+    // The place of the chain in the header, and the most that it may be.
+    pub const CHAIN: usize = 8;
+
     pub const MOST_CHAIN: u8 = 47;
 
     pub fn new(fold: u8, units: u8, nodes: u8, wires: u8) -> Self
@@ -54,26 +60,71 @@ impl Plan {
         }
     }
 
+    // Where the units stand, the nodes behind them, and the switches last.
+    pub fn unit_run(self) -> Run
+        ensures { λ r. ⌜ r ≡ unit-run plan-format (self .units) ⌝ }
+    {
+        Run {
+            at: Self::HEADER,
+            size: Self::UNIT,
+            count: self.units as usize,
+            first: Self::MARK,
+            second: Self::UNIT_MARK,
+        }
+    }
+
+    pub fn node_run(self) -> Run
+        ensures { λ r. ⌜ r ≡ node-run plan-format (self .units) (self .nodes) ⌝ }
+    {
+        Run {
+            at: Self::HEADER + Self::UNIT * self.units as usize,
+            size: Self::NODE,
+            count: self.nodes as usize,
+            first: Self::MARK,
+            second: Self::NODE_MARK,
+        }
+    }
+
+    pub fn switch_run(self) -> Run
+        ensures { λ r. ⌜ r ≡ wire-run plan-format (self .units) (self .nodes) (self .wires) ⌝ }
+    {
+        Run {
+            at: Self::HEADER + Self::UNIT * self.units as usize + Self::NODE * self.nodes as usize,
+            size: Self::SWITCH,
+            count: self.wires as usize,
+            first: Self::MARK,
+            second: Self::SWITCH_MARK,
+        }
+    }
+
+    // The slot of a cycle: t mod N.
+    pub fn slot_at(self, cycle: u32) -> u8
+        requires { ⌜ 0 < self .fold ⌝ }
+        ensures { λ r. ⌜ r ≡ cycle % self .fold ⌝ }
+    {
+        (cycle % self.fold as u32) as u8
+    }
+
     // Where record i of each sort begins.
     pub fn unit_place(self, i: usize) -> usize
         requires { ⌜ i ≤ 256 ⌝ }
         ensures { λ r. ⌜ r ≡ 9 + 7 * i ⌝ }
     {
-        Self::HEADER + Self::UNIT * i
+        self.unit_run().place(i)
     }
 
     pub fn node_place(self, i: usize) -> usize
         requires { ⌜ i ≤ 256 ⌝ }
         ensures { λ r. ⌜ r ≡ 9 + 7 * self .units + 9 * i ⌝ }
     {
-        self.unit_place(self.units as usize) + Self::NODE * i
+        self.node_run().place(i)
     }
 
     pub fn switch_place(self, i: usize) -> usize
         requires { ⌜ i ≤ 256 ⌝ }
         ensures { λ r. ⌜ r ≡ 9 + 7 * self .units + 9 * self .nodes + 8 * i ⌝ }
     {
-        self.node_place(self.nodes as usize) + Self::SWITCH * i
+        self.switch_run().place(i)
     }
 }
 
@@ -83,6 +134,14 @@ pub fn line_at(b: &[u8], at: usize) -> Cycles
     ensures { λ r. ⌜ r .0 ≡ pos (two (now (b .entry)) (at + 4)) ⌝ }
 {
     Cycles::of_bytes(b[at + 4], b[at + 5])
+}
+
+// The idle count of the unit at a place.
+pub fn idle_at(b: &[u8], o: usize) -> u8
+    requires { ⌜ o + 7 ≤ length (now b) ⌝ }
+    ensures { λ r. ⌜ r ≡ at (now (b .entry)) (o + 6) ⌝ }
+{
+    b[o + 6]
 }
 
 pub fn start_at(b: &[u8], at: usize) -> Iterations

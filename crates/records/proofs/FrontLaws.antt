@@ -55,6 +55,14 @@ module _ (f : Format) (b : List ℕ) where
       unfolding node-fault
       nodes-same = first-cong (nodes-in b) _ _ (λ i l. ap (record-fault b (node-place f b i) (f .node-mark)) (node-same i l))
 
+      -- the length, the units and the nodes
+      pub front-same : (unless (eqb (length b) (whole-length f b)) 1
+          then first (units-in b) (λ i. record-fault b (unit-place f b i) (f .unit-mark) (unit-fits (unit i)))
+          then first (nodes-in b) (λ i. record-fault b (node-place f b i) (f .node-mark) (node-fits (fold-in b) (units-in b) unit (node i))))
+          ≡ front-fault f b
+      unfolding front-fault
+      front-same = rw (units-same, nodes-same) refl
+
       pub reading-parts : reading-fault f b ranges (λ i. unit-fits (unit i)) (λ i. node-fits (fold-in b) (units-in b) unit (node i)) wire
           ≡ (unless (leb (f .header-length) (length b)) 1 then record-fault b 0 (f .header-mark) ranges
           then (front-fault f b then first (wires-in b) (λ i. record-fault b (wire-place f b i) (f .wire-mark) (wire i))))

@@ -11,7 +11,8 @@ use Rattle.plans.specs.Heads.{joint-at}
 use Rattle.cycle.proofs.PartLaws.{gathered-in, gathered-past, joint-so}
 use Rattle.plans.specs.Plan.{plan-read}
 use Rattle.cycle.specs.Taken.{last-of, Gathered, in-slot, input-place, tapped}
-use Rattle.cycle.proofs.TakenLaws.{few-wires, switch-inside}
+use Rattle.plans.proofs.WholeLaws.{switch-inside}
+use Rattle.cycle.proofs.TakenLaws.{whole-taken, few-wires}
 use borrow.Author.Needs.{needs}
 use Rattle.cycle.proofs.inputs_in.Statement.{statement}
 use Rattle.cycle.proofs.inputs_in.Tie as tie
@@ -38,7 +39,7 @@ switch-place-requires c κs =
 joint-at-requires : tie.Need-joint-at-requires Inv-loop μ-loop
 joint-at-requires c κs =
     let s = c .before .before .before .before .before .before in
-    omega (arith, c .switch-place .ensures, switch-inside (s .args .plan .now) (s .args .p) (s .pre .taken) (c .before .before .loop .e) (c .before .loop-test .taken))
+    omega (arith, c .switch-place .ensures, switch-inside (s .args .plan .now) (s .args .p) (whole-taken (s .pre .taken)) (c .before .before .loop .e) (c .before .loop-test .taken))
 
 cast-k : tie.Need-cast-k Inv-loop μ-loop
 cast-k c = search needs

@@ -1,3 +1,4 @@
+-- `cycle::lines_of` meets its contract: unit q begins where the units before it end. Assumes nothing.
 use Prim.Native.Nat.{ℕ, suc, _+_, _*_, _-_, _<_, _≤_}
 use mathlib.Core.Path.{_≡_, refl, ap, _∙_}
 use native.Mathlib.Omega.{arith}
@@ -5,14 +6,11 @@ use lib.ListN.{length, getD, length-set}
 use borrow.Author.Needs.{needs}
 use Rattle.plans.specs.Plan.{plan-read}
 use Rattle.cycle.specs.Cycle.{base, size}
-use Rattle.cycle.proofs.TakenLaws.{few-units, unit-inside, units-so}
+use Rattle.plans.proofs.WholeLaws.{unit-inside, units-so}
+use Rattle.cycle.proofs.TakenLaws.{whole-taken, few-units}
 use Rattle.cycle.proofs.PartLaws.{lines-more}
 use Rattle.cycle.proofs.lines_of.Statement.{statement}
 use Rattle.cycle.proofs.lines_of.Tie as tie
-use Rattle.cycle.proofs.lines_of.Reads as reads
-use Rattle.cycle.proofs.lines_of.Lts as lts
-use Rattle.cycle.proofs.places_at.Reads as places-at-reads
-use Rattle.plans.proofs.Plan.unit_place.Reads as unit-place-reads
 
 abbrev Inv-loop : tie.InvT-loop
 Inv-loop plan p units at₀ size₀ q₀ at size q =
@@ -44,7 +42,7 @@ unit-place-requires c κs =
 places-at-requires : tie.Need-places-at-requires Inv-loop μ-loop
 places-at-requires c κs =
     let s = c .before .before .before .before .before in
-    omega (arith, c .unit-place .ensures, unit-inside (s .args .plan .now) (s .args .p) (s .pre) (c .before .before .loop .q) (c .before .loop-test .taken))
+    omega (arith, c .unit-place .ensures, unit-inside (s .args .plan .now) (s .args .p) (whole-taken (s .pre)) (c .before .before .loop .q) (c .before .loop-test .taken))
 
 add-size : tie.Need-add-size Inv-loop μ-loop
 add-size c =
@@ -70,7 +68,7 @@ unfolding size
 returns c =
     let s = c .before .before .before .before in
     let l = c .before .loop in
-    let all : l .q ≡ length (plan-read (s .args .plan .now) .units) = omega (arith, l .inv .0, c .loop-test .left, units-so (s .args .plan .now) (s .args .p) (s .pre)) in
+    let all : l .q ≡ length (plan-read (s .args .plan .now) .units) = omega (arith, l .inv .0, c .loop-test .left, units-so (s .args .plan .now) (s .args .p) (whole-taken (s .pre))) in
     record { at = λ q h. l .inv .2 q (omega arith); size-is = l .inv .1 ∙ ap (λ (n : ℕ). suc (base (plan-read (s .args .plan .now)) n)) all }
 
 pub lines-of-spec : {M : Type 1} → statement M

@@ -1,3 +1,4 @@
+-- `cycle::places_at` meets its contract: depth and line are bytes of the record. Assumes nothing.
 use Prim.Native.Nat.{_+_}
 use mathlib.Core.Path.{ap, _∙_}
 use native.Mathlib.Omega.{arith}
@@ -7,24 +8,16 @@ use Rattle.records.specs.Records.{at, two}
 use borrow.Author.Needs.{needs}
 use Rattle.cycle.proofs.places_at.Statement.{statement}
 use Rattle.cycle.proofs.places_at.Tie as tie
-use Rattle.cycle.proofs.places_at.Reads as reads
-use Rattle.cycle.proofs.places_at.Lts as lts
-use Rattle.plans.proofs.line_at.Reads as line-at-reads
-use Rattle.words.proofs.time.Cycles.places.Reads as places-reads
 
--- src/lib.rt:21:5
 line-at-requires : tie.Need-line-at-requires
 line-at-requires c κs = search needs
 
--- src/lib.rt:21:41
 add-places : tie.Need-add-places
 add-places c = search needs
 
--- src/lib.rt:21:36
 shared-slice-read-places : tie.Need-shared-slice-read-places
 shared-slice-read-places c = search needs
 
--- src/lib.rt:21:5
 places-requires : tie.Need-places-requires
 places-requires c κs =
     let a = c .before .before .before .args in

@@ -2,7 +2,8 @@
 use native.Mathlib.Omega.{arith}
 use Prim.Native.Nat.{ℕ, _+_, _<_}
 use mathlib.Core.Path.{sym, subst}
-use Rattle.cycle.proofs.TakenLaws.{switch-inside}
+use Rattle.plans.proofs.WholeLaws.{switch-inside}
+use Rattle.cycle.proofs.TakenLaws.{whole-taken}
 use Rattle.cycle.proofs.PartLaws.{source-so}
 use borrow.Author.Needs.{needs}
 use Rattle.cycle.proofs.source_of.Statement.{statement}
@@ -17,7 +18,7 @@ add-result c = search needs
 shared-slice-read-result : tie.Need-shared-slice-read-result
 shared-slice-read-result c =
     let s = c .before .before .before in
-    omega (arith, c .before .switch-place .ensures, switch-inside (s .args .plan .now) (s .args .p) (s .pre .0) (s .args .e) (s .pre .1))
+    omega (arith, c .before .switch-place .ensures, switch-inside (s .args .plan .now) (s .args .p) (whole-taken (s .pre .0)) (s .args .e) (s .pre .1))
 
 cast-result : tie.Need-cast-result
 cast-result c = omega (arith, c .shared-slice-known2 .given (c .before .switch-place .result + 5))

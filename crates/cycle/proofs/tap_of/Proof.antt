@@ -3,7 +3,8 @@ use native.Mathlib.Omega.{arith}
 use mathlib.Core.Path.{sym, ap, _∙_}
 use lib.IntN.{pos}
 use Rattle.plans.specs.Plan.{Switch}
-use Rattle.cycle.proofs.TakenLaws.{switch-inside, switch-so}
+use Rattle.plans.proofs.WholeLaws.{switch-inside, switch-so}
+use Rattle.cycle.proofs.TakenLaws.{whole-taken}
 use borrow.Author.Needs.{needs}
 use Rattle.cycle.proofs.tap_of.Statement.{statement}
 use Rattle.cycle.proofs.tap_of.Tie as tie
@@ -14,12 +15,12 @@ switch-place-requires c κs = search needs
 tap-at-requires : tie.Need-tap-at-requires
 tap-at-requires c κs =
     let s = c .before .before in
-    omega (arith, c .switch-place .ensures, switch-inside (s .args .plan .now) (s .args .p) (s .pre .0) (s .args .e) (s .pre .1))
+    omega (arith, c .switch-place .ensures, switch-inside (s .args .plan .now) (s .args .p) (whole-taken (s .pre .0)) (s .args .e) (s .pre .1))
 
 returns : tie.Need-returns
 returns c =
     let s = c .before .before .before in
-    c .tap-at .ensures ∙ rw (c .before .switch-place .ensures) (ap (λ (w : Switch). pos (w .tap)) (sym (switch-so (s .args .plan .now) (s .args .p) (s .pre .0) (s .args .e) (s .pre .1))))
+    c .tap-at .ensures ∙ rw (c .before .switch-place .ensures) (ap (λ (w : Switch). pos (w .tap)) (sym (switch-so (s .args .plan .now) (s .args .p) (whole-taken (s .pre .0)) (s .args .e) (s .pre .1))))
 
 pub tap-of-spec : {M : Type 1} → statement M
 tap-of-spec = tie.close (tie.spec switch-place-requires tap-at-requires returns)

@@ -1,0 +1,141 @@
+-- A switch's ranges by the masks, and the reader's answer for it. Assumes nothing.
+use mathlib.Core.Path.{_≡_, refl, sym, ap, _∙_}
+use mathlib.Core.Logic.{_⊎_, inl, inr}
+use mathlib.Core.Bool.{Bool, true, false, not, _&&_, and-true, and-false, and-comm, and-assoc}
+use mathlib.Core.List.{List}
+use Prim.Native.Nat.{ℕ, _+_, _*_, _<_, _≤_}
+use native.Mathlib.Omega.{arith}
+use lib.Dec.{ltb, leb, eqb}
+use lib.ListN.{length, getD}
+use borrow.Author.Tests.{lt-ltb, le-ltb, eqb-true}
+use Rattle.words.specs.Loops.{some-of, unless}
+use Rattle.words.specs.Masks.{in-mask}
+use Rattle.words.proofs.LoopLaws.{passed?, and-split, some-of-cong, some-and}
+use Rattle.records.specs.Units.{last-op, kind-of, inputs, inputs-of, k-fits}
+use Rattle.records.specs.Records.{wire-place, clashes, runs-in, record-fault}
+use Rattle.slots.specs.declared.Slots.{Slots}
+use Rattle.slots.specs.Slots.{Masked, SlotsOf}
+use Rattle.slots.specs.Feeding.{InputMasked}
+use Rattle.records.proofs.ReadingLaws.{Counts, counts-split, record-le}
+use Rattle.records.proofs.NodeLaws.{NodeFits, node-split, inputs-few}
+use Rattle.records.proofs.AnswerLaws.{number-answer}
+use Rattle.plans.specs.declared.Plan.{Plan as Header}
+use Rattle.plans.specs.declared.Joint.{Joint}
+use Rattle.plans.specs.Plan.{Plan, Switch, unit-in, node-in, switch-in, plan-format, plan-read}
+use Rattle.plans.specs.Heads.{joint-at, Whole}
+use Rattle.plans.specs.Judging.{switch-fits}
+use Rattle.plans.proofs.ReadLaws.{fold-read, units-read, nodes-read, switches-read}
+use Rattle.plans.proofs.JudgingLaws.{SwitchFits, switch-split}
+use Rattle.plans.proofs.WholeLaws.{nodes-so, switch-so}
+use Rattle.judging.specs.declared.switches.SwitchRead.{SwitchRead}
+use Rattle.judging.specs.declared.switches.SwitchRead.the-variants as S
+use Rattle.judging.specs.Answers.{as-switch, switch-fault, switch-number, switch-answer, clash-fault, input-of, Fronted, Held, Occupied}
+
+-- ---- nodes in their ranges
+
+module _ (b : List ℕ) (p : Header) (f : Fronted b p) where
+  pub counts-of : Counts b
+  counts-of = counts-split b (f .counts)
+
+  pub node-fit : (x : ℕ) → x < length (plan-read b .nodes) →
+      NodeFits (plan-read b .fold) (length (plan-read b .units)) (λ q. unit-in (plan-read b) q .unit) (node-in (plan-read b) x .node)
+  node-fit x l = node-split _ _ _ (node-in (plan-read b) x .node) (f .node-ok x (omega (arith, nodes-read b)))
+
+  -- the masks have room for them
+  pub node-masked : (x : ℕ) → x < length (plan-read b .nodes) → Masked (node-in (plan-read b) x .node)
+  node-masked x l =
+      let pl = plan-read b in
+      let n = node-in pl x .node in
+      let g = node-fit x l in
+      let t = and-split (ltb (n .unit) (length (pl .units)) && ltb (n .slot) (pl .fold) && leb (n .op) last-op && eqb (unit-in pl (n .unit) .unit .kind) (kind-of (n .op))) (k-fits (n .op) (n .k)) (f .node-ok x (omega (arith, nodes-read b))) in
+      record {
+        on-unit = omega (arith, g .on-unit, units-read b, counts-of .units-most);
+        in-turn = omega (arith, g .in-turn, fold-read b, counts-of .fold-most);
+        of-op = t .1;
+      }
+
+  -- a switch's node has the inputs of its unit's kind
+  fed-node : (q v i : ℕ) →
+      some-of (length (plan-read b .nodes)) (λ x. runs-in q v (node-in (plan-read b) x .node) && ltb i (inputs-of (node-in (plan-read b) x .node .op)))
+      ≡ (ltb i (inputs (unit-in (plan-read b) q .unit .kind)) && some-of (length (plan-read b .nodes)) (λ x. runs-in q v (node-in (plan-read b) x .node)))
+  fed-node q v i =
+      let pl = plan-read b in
+      let has = ltb i (inputs (unit-in pl q .unit .kind)) in
+      some-of-cong (length (pl .nodes)) _ (λ x. has && runs-in q v (node-in pl x .node)) each ∙ some-and (length (pl .nodes)) has (λ x. runs-in q v (node-in pl x .node))
+    where
+      each : (x : ℕ) → x < length (plan-read b .nodes) →
+          (runs-in q v (node-in (plan-read b) x .node) && ltb i (inputs-of (node-in (plan-read b) x .node .op)))
+          ≡ (ltb i (inputs (unit-in (plan-read b) q .unit .kind)) && runs-in q v (node-in (plan-read b) x .node))
+      each x l =
+          let pl = plan-read b in
+          let n = node-in pl x .node in
+          elim (passed? (runs-in q v n)) [
+            | inl t ↦
+                let on : n .unit ≡ q = eqb-true (n .unit) q (and-split (eqb (n .unit) q) (eqb (n .slot) v) t .0) in
+                let kind : kind-of (n .op) ≡ unit-in pl q .unit .kind = sym (node-fit x l .of-kind) ∙ ap (λ (q : ℕ). unit-in pl q .unit .kind) on in
+                rw (t, kind) (sym (and-true (ltb i (inputs (unit-in pl q .unit .kind)))))
+            | inr g ↦ rw g (sym (and-false (ltb i (inputs (unit-in pl q .unit .kind)))))
+          ]
+
+  -- ---- a switch's ranges
+
+  pub off-unit : (w : Switch) → length (plan-read b .units) ≤ w .unit → switch-fits (plan-read b) w ≡ false
+  off-unit w h = rw (le-ltb (w .unit) (length (plan-read b .units)) h) refl
+
+  pub off-turn : (w : Switch) → plan-read b .fold ≤ w .slot → switch-fits (plan-read b) w ≡ false
+  off-turn w h = rw (le-ltb (w .slot) (plan-read b .fold) h, and-false (ltb (w .unit) (length (plan-read b .units)))) refl
+
+  pub on-both : (w : Switch) (masks : List ℕ) → Occupied (plan-read b) masks → w .unit < length (plan-read b .units) → w .slot < plan-read b .fold →
+      switch-fits (plan-read b) w
+      ≡ (ltb (w .source) (length (plan-read b .units)) && ltb (w .input) (inputs (unit-in (plan-read b) (w .unit) .unit .kind)) && in-mask (getD masks (w .unit) 0) (w .slot))
+  on-both w masks occ hu hs =
+      let pl = plan-read b in
+      let source = ltb (w .source) (length (pl .units)) in
+      let has = ltb (w .input) (inputs (unit-in pl (w .unit) .unit .kind)) in
+      rw (lt-ltb (w .unit) (length (pl .units)) hu, lt-ltb (w .slot) (pl .fold) hs, fed-node (w .unit) (w .slot) (w .input), sym (occ .taken (w .unit) (w .slot)))
+      (sym (and-assoc source has (in-mask (getD masks (w .unit) 0) (w .slot))))
+
+  -- what the reader got of switch e
+  pub joint-fits : (e : ℕ) → e < p .wires → (j : Joint) → j ≡ joint-at b (9 + 7 * p .units + 9 * p .nodes + 8 * e) →
+      switch-fits (plan-read b) (as-switch j) ≡ switch-fits (plan-read b) (switch-in (plan-read b) e)
+  joint-fits e l j is = ap (λ (j : Joint). switch-fits (plan-read b) (as-switch j)) is ∙ sym (ap (switch-fits (plan-read b)) (switch-so b p (f .whole) e l))
+
+-- ---- the masks of the plan's nodes
+
+module _ (b : List ℕ) (p : Header) (w : Whole b p) (s : Slots) (is : SlotsOf (p .nodes) (λ x. node-in (plan-read b) x .node) s) where
+  pub slots-occupied : length (s .occupied) ≡ 8 → Occupied (plan-read b) (s .occupied)
+  slots-occupied eight =
+      let pl = plan-read b in
+      record {
+        taken = λ q v. is .taken q v ∙ ap (λ (n : ℕ). some-of n (λ x. runs-in q v (node-in pl x .node))) (nodes-so b p w);
+        small = is .small;
+        eight = eight;
+      }
+
+  pub clash-by-masks : clash-fault (plan-read b) ≡ unless (not (s .clash)) 4
+  unfolding clash-fault
+  clash-by-masks = sym (ap (λ (t : Bool). unless (not t) 4) (is .clash-is ∙ ap (λ (n : ℕ). clashes n (λ x. node-in (plan-read b) x .node)) (nodes-so b p w)))
+
+-- ---- switches in their ranges
+
+module _ (b : List ℕ) (p : Header) (h : Held b p) where
+  pub switch-fit : (e : ℕ) → e < length (plan-read b .switches) → SwitchFits (plan-read b) (switch-in (plan-read b) e)
+  switch-fit e l = switch-split (plan-read b) (switch-in (plan-read b) e) (h .switch-ok e (omega (arith, switches-read b)))
+
+  pub input-masked : (e : ℕ) → e < length (plan-read b .switches) → InputMasked (input-of (plan-read b) e)
+  input-masked e l =
+      let g = switch-fit e l in
+      let n = node-in (plan-read b) (g .node) .node in
+      let c = counts-of b p (h .front) in
+      record {
+        on-unit = omega (arith, g .on-unit, units-read b, c .units-most);
+        in-turn = omega (arith, g .in-turn, fold-read b, c .fold-most);
+        one-of = omega (arith, g .input-fits, inputs-few (kind-of (n .op)));
+      }
+
+-- the number of a reader's answer is its switch's fault
+pub switch-told : (b : List ℕ) (e : ℕ) (a : SwitchRead) → a ≡ switch-answer b e → switch-number a ≡ switch-fault b e
+unfolding switch-fault
+switch-told b e a h =
+    let l = record-le b (wire-place plan-format b e) (plan-format .wire-mark) (switch-fits (plan-read b) (switch-in (plan-read b) e)) in
+    ap switch-number h ∙ number-answer switch-number _ S.Refused refl (λ _. refl) (switch-fault b e) (omega arith)

@@ -1,0 +1,120 @@
+// The switches of a plan: read in file order, each with an input of its unit in an occupied slot, and the inputs that they feed.
+ghost use mathlib.Core.Path.{_≡_};
+ghost use Prim.Native.Nat.{_<_};
+ghost use Rattle.records.specs.Answers.{judged};
+ghost use Rattle.slots.specs.Feeding.{FedOf};
+ghost use Rattle.plans.specs.Plan.{plan-read};
+ghost use Rattle.plans.specs.Judging.{switch-fits};
+ghost use Rattle.judging.specs.Answers.{as-switch, switch-number, switch-answer, switches-fault, Fronted, Held, Occupied, input-of};
+use plans::Joint;
+use plans::Plan;
+use plans::joint_at;
+use records::Unit;
+use records::reading::Judged;
+use records::reading::Reason;
+use records::reading::marked;
+use records::reading::unit_in;
+use slots::feeding::Fed;
+use slots::feeding::Input;
+use words::masks;
+
+pub enum SwitchRead {
+    Got(Joint),
+    Refused(Reason),
+}
+
+// Whether a switch joins units, and feeds an input that its unit has in an occupied slot.
+fn switch_fits(b: &[u8], p: Plan, occupied: &[u32], j: Joint) -> bool
+    requires { ⌜ Fronted (now b) p ⌝ }
+    requires { ⌜ Occupied (plan-read (now b)) (now occupied) ⌝ }
+    ensures { λ r. ⌜ r ≡ switch-fits (plan-read (now (b .entry))) (as-switch j) ⌝ }
+{
+    if p.units <= j.unit {
+        return false;
+    }
+    if p.fold <= j.slot {
+        return false;
+    }
+    let q = j.unit as usize;
+    let unit = unit_in(b, p.unit_run(), q);
+    (j.source < p.units)
+        & (j.input < Unit::inputs(unit.kind))
+        & masks::has_slot(occupied[q], j.slot)
+}
+
+fn read_switch(b: &[u8], p: Plan, occupied: &[u32], e: usize) -> SwitchRead
+    requires { ⌜ Fronted (now b) p ⌝ }
+    requires { ⌜ Occupied (plan-read (now b)) (now occupied) ⌝ }
+    requires { ⌜ e < p .wires ⌝ }
+    ensures { λ r. ⌜ r ≡ switch-answer (now (b .entry)) e ⌝ }
+{
+    if !marked(b, p.switch_run(), e) {
+        return SwitchRead::Refused(Reason::Mark);
+    }
+    let joint = joint_at(b, p.switch_place(e));
+    if switch_fits(b, p, occupied, joint) {
+        SwitchRead::Got(joint)
+    } else {
+        SwitchRead::Refused(Reason::Range)
+    }
+}
+
+fn switch_judged(got: SwitchRead) -> Judged
+    ensures { λ r. ⌜ r ≡ judged (switch-number got) ⌝ }
+{
+    match got {
+        SwitchRead::Got(_) => Judged::Passed,
+        SwitchRead::Refused(why) => Judged::Refused(why),
+    }
+}
+
+// The first fault of the switches.
+pub fn judge_switches(b: &[u8], p: Plan, occupied: &[u32]) -> Judged
+    requires { ⌜ Fronted (now b) p ⌝ }
+    requires { ⌜ Occupied (plan-read (now b)) (now occupied) ⌝ }
+    ensures { λ r. ⌜ r ≡ judged (switches-fault (now (b .entry))) ⌝ }
+{
+    let count = p.wires as usize;
+    let mut e = 0;
+    while e < count {
+        let got = read_switch(b, p, occupied, e);
+        let SwitchRead::Got(_) = got else {
+            return switch_judged(got);
+        };
+        e += 1;
+    }
+    Judged::Passed
+}
+
+// The input that switch e feeds.
+fn input_of(b: &[u8], p: Plan, e: usize) -> Input
+    requires { ⌜ Held (now b) p ⌝ }
+    requires { ⌜ e < p .wires ⌝ }
+    ensures { λ r. ⌜ r ≡ input-of (plan-read (now (b .entry))) e ⌝ }
+{
+    let j = joint_at(b, p.switch_place(e));
+    Input {
+        unit: j.unit,
+        slot: j.slot,
+        input: j.input,
+    }
+}
+
+// The masks of the inputs that the switches feed.
+pub fn fed_of(b: &[u8], p: Plan) -> Fed
+    requires { ⌜ Held (now b) p ⌝ }
+    ensures { λ r. ⌜ FedOf (p .wires) (input-of (plan-read (now (b .entry)))) r ⌝ }
+{
+    let count = p.wires as usize;
+    let mut twice = false;
+    let mut fed = [0u32; 16];
+    let mut e = 0;
+    while e < count {
+        let to = input_of(b, p, e);
+        let m = to.mask();
+        twice = twice | masks::has_slot(fed[m], to.slot);
+        fed[m] = masks::with_slot(fed[m], to.slot);
+        e += 1;
+    }
+    Fed { twice, masks: fed }
+}

@@ -1,0 +1,93 @@
+-- `machine::step_judged` meets its contract: room, then t, then the results, the leaving words and the move. Assumes nothing.
+use Prim.Native.Nat.{_<_, _≤_}
+use native.Mathlib.Omega.{arith}
+use lib.ListN.{length}
+use Rattle.records.specs.Units.{channels}
+use Rattle.records.specs.Records.{at}
+use Rattle.plans.specs.Plan.{plan-read}
+use Rattle.plans.proofs.WholeLaws.{units-so}
+use Rattle.cycle.specs.Cycle.{size}
+use Rattle.cycle.specs.Taken.{Ready}
+use Rattle.cycle.proofs.TakenLaws.{whole-taken}
+use Rattle.machine.specs.Stepping.{last-count}
+use Rattle.machine.proofs.CallLaws.{short-memory, short-channels, short-output, too-late, step-done}
+use borrow.Author.Needs.{needs}
+use Rattle.machine.proofs.step_judged.Statement.{statement}
+use Rattle.machine.proofs.step_judged.Tie as tie
+
+lines-of-requires : tie.Need-lines-of-requires
+lines-of-requires c κs = search needs
+
+returns : tie.Need-returns
+returns c = let s = c .before .before .before .before .before .before .before in short-memory _ _ _ _ _ (s .pre) (omega (arith, c .before .before .lines-of .ensures .size-is, c .if1 .taken))
+
+returns-2 : tie.Need-returns-2
+returns-2 c = let s = c .before .before .before .before .before .before .before .before in short-channels _ _ _ _ _ (s .pre) (c .if2 .taken)
+
+cast-if3 : tie.Need-cast-if3
+cast-if3 c = search needs
+
+returns-3 : tie.Need-returns-3
+returns-3 c = let s = c .before .before .before .before .before .before .before .before .before .before in short-output _ _ _ _ _ (s .pre) (omega (arith, c .if3 .taken, units-so _ _ (whole-taken (s .pre))))
+
+-- the lent slices have room
+room : (c : tie.Else3) →
+    let s = c .before .before .before .before .before .before .before .before .before .before in
+    (size (plan-read (s .args .plan .now)) ≤ length (s .args .memory .now)) × (channels ≤ length (s .args .channels .now)) × (length (plan-read (s .args .plan .now) .units) ≤ length (s .args .out .now))
+room c =
+    let s = c .before .before .before .before .before .before .before .before .before .before in
+    (omega (arith, c .before .before .before .before .before .lines-of .ensures .size-is, c .before .before .before .if1 .left), c .before .before .if2 .left, omega (arith, c .if3 .left, units-so _ _ (whole-taken (s .pre))))
+
+slice-read-if4 : tie.Need-slice-read-if4
+unfolding size
+slice-read-if4 c = omega (arith, room (c .before) .0)
+
+returns-4 : tie.Need-returns-4
+returns-4 c = let s = c .before .before .before .before .before .before .before .before .before .before .before .before in let r = room (c .before .before) in too-late _ _ _ _ _ (s .pre) (r .0) (r .1) (r .2) (c .if4 .taken)
+
+ready : (c : tie.Else4) → let s = c .before .before .before .before .before .before .before .before .before .before .before .before in Ready (s .args .plan .now) (s .args .p) (c .before .before .before .before .before .before .before .lines-of .result) (s .args .memory .now)
+ready c = record { taken = c .before .before .before .before .before .before .before .before .before .before .before .before .pre; lines-so = c .before .before .before .before .before .before .before .lines-of .ensures; room = room (c .before .before) .0 }
+
+-- t has not reached its last number
+in-time : (c : tie.Else4) → at (c .before .before .before .before .before .before .before .before .before .before .before .before .args .memory .now) 0 < last-count
+in-time c = omega (arith, c .if4 .left, c .before .slice-known3 .given 0)
+
+results-requires : tie.Need-results-requires
+results-requires c κs = (ready (c .before), room (c .before .before .before) .1)
+
+leave-requires : tie.Need-leave-requires
+leave-requires c κs = (ready (c .before .before .before .before), c .before .before .before .before .before .before .if3 .left)
+
+advance-requires : tie.Need-advance-requires
+advance-requires c κs = (ready (c .before .before .before .before .before .before .before .before), omega (arith, in-time (c .before .before .before .before .before .before .before .before)))
+
+same-length : tie.Need-same-length
+same-length c = search needs
+
+same-length-2 : tie.Need-same-length-2
+same-length-2 c = search needs
+
+returns-5 : tie.Need-returns-5
+returns-5 c =
+    let e = c .before .before .before .before .before .before .before .before .before .before .before in
+    let s = c .before .before .before .before .before .before .before .before .before .before .before .before .before .before .before .before .before .before .before .before .before .before .before in
+    let r = room (e .before .before) in
+    step-done _ _ _ _ _ (s .pre) (r .0) (r .1) (r .2) (in-time e) (c .before .before .before .before .before .before .before .before .before .results .result) _ _ (c .before .before .before .before .before .before .before .before .before .results .ensures) (c .before .before .advance .ensures) (c .before .before .before .before .before .before .leave .ensures)
+
+pub step-judged-spec : {M : Type 1} → statement M
+step-judged-spec =
+    tie.close
+    (tie.spec
+    lines-of-requires
+    returns
+    returns-2
+    cast-if3
+    returns-3
+    slice-read-if4
+    returns-4
+    results-requires
+    leave-requires
+    advance-requires
+    same-length
+    same-length-2
+    returns-5)
