@@ -1,0 +1,4 @@
+-- Laws of texts: digits, what writers laid, and the calls' answers.
+pub mod DigitLaws
+pub mod WroteLaws
+pub mod NumberLaws

@@ -1,0 +1,81 @@
+-- What the text calls answer and leave in the lent buffer on every input, and what their parts do. Assumes nothing.
+use mathlib.Core.Path.{_≡_}
+use mathlib.Core.Bool.{cond, _&&_}
+use mathlib.Core.List.{List}
+use Prim.Native.Nat.{ℕ, _+_, _*_, _/_, _%_, _≤_}
+use lib.Dec.{ltb, leb, eqb}
+use lib.ListN.{length}
+use Rattle.words.specs.Loops.{tab, first, unless, _then_}
+use Rattle.records.specs.Records.{at, over, between, most-units, most-nodes, most-wires, record-fault}
+use Rattle.plans.specs.Plan.{loop-mark, loop-length}
+use Rattle.writing.specs.Laid.{laid}
+use Rattle.text.specs.declared.Texted.{Texted}
+use Rattle.text.specs.declared.Texted.the-variants.{Done, Length, Mark, Range, Clash, Unfed, Short, Figures}
+
+-- ---- answers
+
+-- column no. of 01's table of refusals
+abbrev pub texted-number : Texted → ℕ
+texted-number (Done n) = 0
+texted-number Length = 1
+texted-number Mark = 2
+texted-number Range = 3
+texted-number Clash = 4
+texted-number Unfed = 5
+texted-number (Short n) = 7
+texted-number Figures = 9
+
+-- the length that it says: of the text at 0 and 7, otherwise 0
+abbrev pub texted-length : Texted → ℕ
+texted-length (Done n) = n
+texted-length Length = 0
+texted-length Mark = 0
+texted-length Range = 0
+texted-length Clash = 0
+texted-length Unfed = 0
+texted-length (Short n) = n
+texted-length Figures = 0
+
+-- of what has the first fault `fault` and else this text, lent o: the fault, and 7 where the text does not fit
+abbrev pub text-number : ℕ → List ℕ → List ℕ → ℕ
+text-number fault text o = fault then unless (leb (length text) (length o)) 7
+
+-- a call may answer `number` and `len`, and leave `after` where o was lent; a refusal changes nothing
+pub record Texting (fault : ℕ) (text o : List ℕ) (number len : ℕ) (after : List ℕ) : Type 0 where
+  pub number-is : number ≡ text-number fault text o
+  pub length-is : len ≡ cond (eqb fault 0) (length text) 0
+  pub out-is : after ≡ cond (eqb (text-number fault text o) 0) (over text o) o
+
+-- ---- the loop that bytes say: "`PW` and a wire number (3 bytes) for each wire of one closed loop", "each node met once"
+
+abbrev pub wire-at : List ℕ → ℕ → ℕ
+wire-at b i = at b (loop-length * i + 2)
+
+abbrev pub loop-wires : List ℕ → List ℕ
+loop-wires b = tab (length b / loop-length) (wire-at b)
+
+-- whole records, at least one and no more than there are nodes; then each record, mark before range
+unfoldable pub loop-fault : List ℕ → ℕ
+loop-fault b =
+    unless (eqb (length b % loop-length) 0 && between 1 (length b / loop-length) most-nodes) 1
+    then first (length b / loop-length) (λ i. record-fault b (loop-length * i) loop-mark (ltb (wire-at b i) most-wires))
+
+-- ---- what the parts do
+
+-- bs, of which there are at most `most`, were laid from `at` on, up to `next`
+pub record Wrote (most : ℕ) (before : List ℕ) (at : ℕ) (bs after : List ℕ) (next : ℕ) : Type 0 where
+  pub laid-so : after ≡ laid before at bs
+  pub next-is : next ≡ at + length bs
+  pub few : length bs ≤ most
+
+-- a number below 2^32 has at most 10 digits
+abbrev pub most-digits : ℕ
+most-digits = 10
+
+-- no line is longer
+abbrev pub line-most : ℕ
+line-most = 128
+
+-- a plan's text is no longer: its header's line and one for each unit, node and switch
+abbrev pub longest : ℕ
+longest = line-most * (1 + most-units + most-nodes + most-wires)
