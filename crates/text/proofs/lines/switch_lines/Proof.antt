@@ -1,55 +1,63 @@
+-- `text::lines::switch_lines` meets its contract: each turn writes the line of one switch more. Assumes nothing.
+use mathlib.Core.Path.{_≡_, sym, ap, _∙_}
+use Prim.Native.Nat.{ℕ, _-_, _*_, _≤_}
+use native.Mathlib.Omega.{arith}
+use Rattle.plans.specs.Plan.{switch-at, plan-read}
+use Rattle.plans.proofs.WholeLaws.{switch-inside, switch-so}
+use Rattle.text.specs.Text.{joined, switch-line, switch-lines}
+use Rattle.text.specs.Texting.{Wrote, line-most}
+use Rattle.text.proofs.WroteLaws.{wrote-length}
+use Rattle.text.proofs.LineLaws.{lines-none, lines-more, lines-done}
+use borrow.Author.Needs.{needs}
 use Rattle.text.proofs.lines.switch_lines.Statement.{statement}
 use Rattle.text.proofs.lines.switch_lines.Tie as tie
-use Rattle.text.proofs.lines.switch_lines.Reads as reads
-use Rattle.text.proofs.lines.switch_lines.Lts as lts
-use Rattle.plans.proofs.Plan.switch_place.Reads as switch-place-reads
-use Rattle.text.proofs.lines.switch_line.Reads as switch-line-reads
 
 abbrev Inv-loop : tie.InvT-loop
-Inv-loop b p out₀ to count next₀ i₀ out next i = ?
+Inv-loop b p out₀ to count next₀ i₀ out next i = (i ≤ count) × Wrote (line-most * i) out₀ to (joined i (switch-lines (plan-read b))) out next
 
 abbrev μ-loop : tie.MeasureT-loop
-μ-loop b p out₀ to count next₀ i₀ out next i = ?
+μ-loop b p out₀ to count next₀ i₀ out next i = count - i
 
--- src/lines.rt:109:17
 cast-count : tie.Need-cast-count Inv-loop μ-loop
-cast-count c = ?
+cast-count c = search needs
 
--- src/lines.rt:112:5
 loop-holds : tie.Need-loop-holds Inv-loop μ-loop
-loop-holds c = ?
+loop-holds c = (omega arith, lines-none line-most _ _ _)
 
--- src/lines.rt:113:31
 switch-place-requires : tie.Need-switch-place-requires Inv-loop μ-loop
-switch-place-requires c κs = ?
+switch-place-requires c κs = search needs
 
--- src/lines.rt:113:50
 cast-switch-line : tie.Need-cast-switch-line Inv-loop μ-loop
-cast-switch-line c = ?
+cast-switch-line c = search needs
 
--- src/lines.rt:113:9
 switch-line-requires : tie.Need-switch-line-requires Inv-loop μ-loop
-switch-line-requires c κs = ?
+switch-line-requires c κs =
+    let s = c .before .before .before .before .before .before .before in
+    let l = c .before .before .before .loop in
+    let test = c .before .before .loop-test .taken in (
+      omega (arith, c .before .switch-place .ensures, switch-inside _ _ (s .pre .0) (l .i) test),
+      omega (arith, l .inv .1, s .pre .1, test),
+    )
 
--- src/lines.rt:114:9
 add-i : tie.Need-add-i Inv-loop μ-loop
-add-i c = ?
+add-i c = search needs
 
--- src/lines.rt:112:5
 loop-less : tie.Need-loop-less Inv-loop μ-loop
-loop-less c = ?
+loop-less c = search needs
 
--- src/lines.rt:112:5
 loop-again : tie.Need-loop-again Inv-loop μ-loop
-loop-again c = ?
+loop-again c =
+    let s = c .before .before .before .before .before .before .before .before .before .before in
+    let l = c .before .before .before .before .before .before .loop in
+    let test = c .before .before .before .before .before .loop-test .taken in
+    let read = ap (λ (o : ℕ). switch-line (l .i) (switch-at (s .args .b .now) o)) (c .before .before .before .before .switch-place .ensures) ∙ sym (ap (switch-line (l .i)) (switch-so _ _ (s .pre .0) (l .i) test)) in
+    (omega arith, lines-more _ _ read (l .inv .1) (c .before .before .switch-line .ensures))
 
--- src/lines.rt:104:1
 same-length : tie.Need-same-length Inv-loop μ-loop
-same-length c = ?
+same-length c = wrote-length (c .before .loop .inv .1)
 
--- src/lines.rt:104:1
 returns : tie.Need-returns Inv-loop μ-loop
-returns c = ?
+returns c = lines-done _ _ _ (c .before .loop .inv .0) (c .loop-test .left) (c .before .loop .inv .1)
 
 pub switch-lines-spec : {M : Type 1} → statement M
 switch-lines-spec =
