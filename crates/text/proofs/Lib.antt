@@ -1,5 +1,2 @@
--- Laws of texts: digits, what writers laid, and the calls' answers.
-pub mod DigitLaws
-pub mod WroteLaws
-pub mod NumberLaws
+-- Laws of lines and of the calls' answers.
 pub mod LineLaws

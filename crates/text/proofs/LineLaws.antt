@@ -12,8 +12,8 @@ use Rattle.plans.specs.Heads.{Whole}
 use Rattle.plans.proofs.ReadLaws.{fold-read, units-read, nodes-read, switches-read}
 use Rattle.plans.proofs.WholeLaws.{units-so, nodes-so, wires-so}
 use Rattle.text.specs.Text.{joined, head-line, header-line, unit-lines, node-lines, switch-lines, plan-text}
-use Rattle.text.specs.Texting.{Wrote}
-use Rattle.text.proofs.WroteLaws.{wrote-nothing, wrote-then, within}
+use Rattle.numerals.specs.Wrote.{Wrote}
+use Rattle.numerals.proofs.WroteLaws.{wrote-nothing, wrote-then, within}
 
 module _ (m : ℕ) (f : ℕ → List ℕ) where
   pub lines-none : (l : List ℕ) (at : ℕ) → Wrote (m * 0) l at (joined 0 f) l at

@@ -2,28 +2,10 @@
 -- line feed. Assumes nothing.
 use mathlib.Core.List.{List, [], _∷_, _++_}
 use Prim.Native.Nat.{ℕ, zero, suc}
-use Prim.Native.String.{String}
 use lib.ListN.{length}
-use lib.IntN.{ℤ}
 use Rattle.records.specs.Records.{at}
 use Rattle.plans.specs.Plan.{Plan, PlanUnit, PlanNode, Switch, unit-in, node-in, switch-in}
-use Rattle.text.specs.Numerals.{ascii, decimal, signed-decimal}
-
--- a name and its number, behind it
-unfoldable pub named : List ℕ → ℕ → List ℕ
-named name n = name ++ decimal n
-
-abbrev pub field : String → ℕ → List ℕ
-field name n = named (ascii name) n
-
-unfoldable pub signed-named : List ℕ → ℤ → List ℕ
-signed-named name z = name ++ signed-decimal z
-
-abbrev pub signed-field : String → ℤ → List ℕ
-signed-field name z = signed-named (ascii name) z
-
-abbrev pub line-feed : List ℕ
-line-feed = ascii "\n"
+use Rattle.numerals.specs.Numerals.{ascii, field, signed-field, line-feed}
 
 -- f 0, .., f (n − 1) one after the other
 unfoldable pub joined : ℕ → (ℕ → List ℕ) → List ℕ

@@ -62,16 +62,6 @@ loop-fault b =
 
 -- ---- what the parts do
 
--- bs, of which there are at most `most`, were laid from `at` on, up to `next`
-pub record Wrote (most : ℕ) (before : List ℕ) (at : ℕ) (bs after : List ℕ) (next : ℕ) : Type 0 where
-  pub laid-so : after ≡ laid before at bs
-  pub next-is : next ≡ at + length bs
-  pub few : length bs ≤ most
-
--- a number below 2^32 has at most 10 digits
-abbrev pub most-digits : ℕ
-most-digits = 10
-
 -- no line is longer
 abbrev pub line-most : ℕ
 line-most = 128

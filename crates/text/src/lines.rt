@@ -6,12 +6,13 @@ ghost use Rattle.records.specs.Records.{at, two};
 ghost use Rattle.plans.specs.Plan.{plan-unit-at, plan-node-at, switch-at, plan-read};
 ghost use Rattle.plans.specs.Heads.{Whole};
 ghost use Rattle.text.specs.Text.{joined, head-line, unit-line, node-line, switch-line, unit-lines, node-lines, switch-lines, plan-text};
-ghost use Rattle.text.specs.Texting.{Wrote, line-most};
-use crate::writer::byte_field;
-use crate::writer::field;
-use crate::writer::line_feed;
-use crate::writer::signed_field;
-use crate::writer::two_field;
+ghost use Rattle.numerals.specs.Wrote.{Wrote};
+ghost use Rattle.text.specs.Texting.{line-most};
+use numerals::byte_field;
+use numerals::field;
+use numerals::line_feed;
+use numerals::signed_field;
+use numerals::two_field;
 use plans::Plan;
 
 // The header's line.

@@ -5,8 +5,9 @@ use native.Mathlib.Omega.{arith}
 use Rattle.plans.specs.Plan.{plan-node-at, plan-read}
 use Rattle.plans.proofs.WholeLaws.{node-inside, node-so}
 use Rattle.text.specs.Text.{joined, node-line, node-lines}
-use Rattle.text.specs.Texting.{Wrote, line-most}
-use Rattle.text.proofs.WroteLaws.{wrote-length}
+use Rattle.numerals.specs.Wrote.{Wrote}
+use Rattle.text.specs.Texting.{line-most}
+use Rattle.numerals.proofs.WroteLaws.{wrote-length}
 use Rattle.text.proofs.LineLaws.{lines-none, lines-more, lines-done}
 use borrow.Author.Needs.{needs}
 use Rattle.text.proofs.lines.node_lines.Statement.{statement}

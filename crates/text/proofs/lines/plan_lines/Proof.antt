@@ -1,6 +1,6 @@
 -- `text::lines::plan_lines` meets its contract: the header's line, then each sort of record. Assumes nothing.
 use native.Mathlib.Omega.{arith}
-use Rattle.text.proofs.WroteLaws.{wrote-then, within}
+use Rattle.numerals.proofs.WroteLaws.{wrote-then, within}
 use Rattle.text.proofs.LineLaws.{text-so}
 use borrow.Author.Needs.{needs}
 use Rattle.text.proofs.lines.plan_lines.Statement.{statement}

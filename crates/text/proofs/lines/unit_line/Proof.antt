@@ -3,7 +3,7 @@ use mathlib.Core.Path.{refl}
 use lib.ListN.{length}
 use borrow.Author.Tests.{leb-true}
 use Rattle.text.specs.Text.{unit-line}
-use Rattle.text.proofs.WroteLaws.{Inside, Room, byte-inside, byte-room, field-room, place-fits, room-left, two-inside, within, wrote-length, wrote-then}
+use Rattle.numerals.proofs.WroteLaws.{Inside, Room, byte-inside, byte-room, field-room, place-fits, room-left, two-inside, within, wrote-length, wrote-then}
 use Rattle.text.proofs.lines.unit_line.Statement.{statement}
 use Rattle.text.proofs.lines.unit_line.Tie as tie
 

@@ -1,12 +1,12 @@
-use Rattle.text.specs.Text.{named}
-use Rattle.text.proofs.WroteLaws.{wrote-then}
+use Rattle.numerals.specs.Numerals.{named}
+use Rattle.numerals.proofs.WroteLaws.{wrote-then}
 use borrow.Author.Needs.{needs}
-use Rattle.text.proofs.writer.field.Statement.{statement}
-use Rattle.text.proofs.writer.field.Tie as tie
-use Rattle.text.proofs.writer.field.Reads as reads
-use Rattle.text.proofs.writer.field.Lts as lts
-use Rattle.text.proofs.writer.number.Reads as number-reads
-use Rattle.text.proofs.writer.word.Reads as word-reads
+use Rattle.numerals.proofs.field.Statement.{statement}
+use Rattle.numerals.proofs.field.Tie as tie
+use Rattle.numerals.proofs.field.Reads as reads
+use Rattle.numerals.proofs.field.Lts as lts
+use Rattle.numerals.proofs.number.Reads as number-reads
+use Rattle.numerals.proofs.word.Reads as word-reads
 
 -- src/writer.rt:75:9
 word-requires : tie.Need-word-requires

@@ -5,10 +5,10 @@ use Prim.Native.Nat.{ℕ, suc, _+_, _-_, _/_, _%_, _^_, _<_, _≤_}
 use native.Mathlib.Omega.{arith}
 use borrow.Author.Tests.{lt-ltb, le-ltb}
 use Rattle.words.specs.Words.{signed}
-use Rattle.text.specs.Numerals.{decimal, signed-decimal}
-use Rattle.text.specs.Texting.{Wrote}
-use Rattle.text.proofs.DigitLaws.{decimal-one, decimal-more, decimal-short}
-use Rattle.text.proofs.WroteLaws.{wrote-then, within}
+use Rattle.numerals.specs.Numerals.{decimal, signed-decimal}
+use Rattle.numerals.specs.Wrote.{Wrote}
+use Rattle.numerals.proofs.DigitLaws.{decimal-one, decimal-more, decimal-short}
+use Rattle.numerals.proofs.WroteLaws.{wrote-then, within}
 
 module _ {at next : ℕ} {before after : List ℕ} where
   pub number-one : (n : ℕ) → n < 10 → Wrote 1 before at ((48 + n) ∷ []) after next → Wrote 10 before at (decimal n) after next

@@ -13,7 +13,7 @@ use mir.Syntax.{w64}
 use mir.Val.{Fits}
 use Rattle.writing.specs.Laid.{laid}
 use Rattle.writing.proofs.LaidLaws.{length-laid, laid-append}
-use Rattle.text.specs.Texting.{Wrote, most-digits}
+use Rattle.numerals.specs.Wrote.{Wrote, most-digits}
 
 pub wrote-nothing : (l : List ℕ) (at : ℕ) → Wrote 0 l at [] l at
 unfolding laid

@@ -1,12 +1,12 @@
--- `text::writer::word` meets its contract: the bytes passed are laid. Assumes nothing.
+-- `numerals::word` meets its contract: the bytes passed are laid. Assumes nothing.
 use Prim.Native.Nat.{_-_, _≤_}
 use native.Mathlib.Omega.{arith}
 use lib.ListN.{length, take}
-use Rattle.text.specs.Texting.{Wrote}
-use Rattle.text.proofs.WroteLaws.{wrote-nothing, wrote-more, wrote-whole, wrote-length}
+use Rattle.numerals.specs.Wrote.{Wrote}
+use Rattle.numerals.proofs.WroteLaws.{wrote-nothing, wrote-more, wrote-whole, wrote-length}
 use borrow.Author.Needs.{needs}
-use Rattle.text.proofs.writer.word.Statement.{statement}
-use Rattle.text.proofs.writer.word.Tie as tie
+use Rattle.numerals.proofs.word.Statement.{statement}
+use Rattle.numerals.proofs.word.Tie as tie
 
 abbrev Inv-loop : tie.InvT-loop
 Inv-loop out₀ to w next₀ i₀ out next i = (i ≤ length w) × Wrote i out₀ to (take i w) out next

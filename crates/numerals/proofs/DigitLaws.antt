@@ -11,7 +11,7 @@ use lib.ListN.{length, length-append}
 use native.Mathlib.Nat.{pow-succ'}
 use borrow.Author.Tests.{ltb-true, ltb-false, lt-ltb, le-ltb}
 use Rattle.words.proofs.LoopLaws.{passed?}
-use Rattle.text.specs.Numerals.{digit, digits, decimal}
+use Rattle.numerals.specs.Numerals.{digit, digits, decimal}
 
 below : (k n : ℕ) → n < 10 → digits (suc k) n ≡ digit n
 unfolding digits

@@ -1,16 +1,16 @@
 use Prim.Native.Nat.{ℕ, _<_}
 use native.Mathlib.Omega.{arith}
-use Rattle.text.proofs.DigitLaws.{decimal-tenth}
-use Rattle.text.proofs.NumberLaws.{number-one, number-more}
+use Rattle.numerals.proofs.DigitLaws.{decimal-tenth}
+use Rattle.numerals.proofs.NumberLaws.{number-one, number-more}
 use borrow.Author.Needs.{needs}
 use borrow.Fn.Kinds.{In}
 use borrow.Fn.PlainCycle.{Measures, is, falls, and}
-use Rattle.text.proofs.writer.number.Reads as number
-use Rattle.text.proofs.writer.number.Kinds as number-kinds
-use Rattle.text.proofs.writer.+number.Lts-number as number-lts
-use Rattle.text.proofs.writer.put.Reads as put-reads
-use Rattle.text.proofs.writer.+number.{statement}
-use Rattle.text.proofs.writer.+number.Tie.{close}
+use Rattle.numerals.proofs.number.Reads as number
+use Rattle.numerals.proofs.number.Kinds as number-kinds
+use Rattle.numerals.proofs.+number.Lts-number as number-lts
+use Rattle.numerals.proofs.put.Reads as put-reads
+use Rattle.numerals.proofs.+number.{statement}
+use Rattle.numerals.proofs.+number.Tie.{close}
 
 abbrev μ-number : Measures 1 number-kinds.ps ℕ
 μ-number κs a = a .1 .1 .0

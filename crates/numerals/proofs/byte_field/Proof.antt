@@ -1,10 +1,10 @@
 use native.Mathlib.Omega.{arith}
 use borrow.Author.Needs.{needs}
-use Rattle.text.proofs.writer.byte_field.Statement.{statement}
-use Rattle.text.proofs.writer.byte_field.Tie as tie
-use Rattle.text.proofs.writer.byte_field.Reads as reads
-use Rattle.text.proofs.writer.byte_field.Lts as lts
-use Rattle.text.proofs.writer.field.Reads as field-reads
+use Rattle.numerals.proofs.byte_field.Statement.{statement}
+use Rattle.numerals.proofs.byte_field.Tie as tie
+use Rattle.numerals.proofs.byte_field.Reads as reads
+use Rattle.numerals.proofs.byte_field.Lts as lts
+use Rattle.numerals.proofs.field.Reads as field-reads
 
 -- src/writer.rt:85:26
 shared-slice-read-field : tie.Need-shared-slice-read-field

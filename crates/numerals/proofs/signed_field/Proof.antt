@@ -1,13 +1,13 @@
-use Rattle.text.specs.Text.{signed-named}
-use Rattle.text.proofs.WroteLaws.{wrote-then}
+use Rattle.numerals.specs.Numerals.{signed-named}
+use Rattle.numerals.proofs.WroteLaws.{wrote-then}
 use borrow.Author.Needs.{needs}
-use Rattle.text.proofs.writer.signed_field.Statement.{statement}
-use Rattle.text.proofs.writer.signed_field.Tie as tie
-use Rattle.text.proofs.writer.signed_field.Reads as reads
-use Rattle.text.proofs.writer.signed_field.Lts as lts
+use Rattle.numerals.proofs.signed_field.Statement.{statement}
+use Rattle.numerals.proofs.signed_field.Tie as tie
+use Rattle.numerals.proofs.signed_field.Reads as reads
+use Rattle.numerals.proofs.signed_field.Lts as lts
 use Rattle.records.proofs.reading.two_at.Reads as two-at-reads
-use Rattle.text.proofs.writer.signed.Reads as signed-reads
-use Rattle.text.proofs.writer.word.Reads as word-reads
+use Rattle.numerals.proofs.signed.Reads as signed-reads
+use Rattle.numerals.proofs.word.Reads as word-reads
 
 -- src/writer.rt:103:9
 word-requires : tie.Need-word-requires

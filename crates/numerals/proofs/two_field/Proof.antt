@@ -1,10 +1,10 @@
 use borrow.Author.Needs.{needs}
-use Rattle.text.proofs.writer.two_field.Statement.{statement}
-use Rattle.text.proofs.writer.two_field.Tie as tie
-use Rattle.text.proofs.writer.two_field.Reads as reads
-use Rattle.text.proofs.writer.two_field.Lts as lts
+use Rattle.numerals.proofs.two_field.Statement.{statement}
+use Rattle.numerals.proofs.two_field.Tie as tie
+use Rattle.numerals.proofs.two_field.Reads as reads
+use Rattle.numerals.proofs.two_field.Lts as lts
 use Rattle.records.proofs.reading.two_at.Reads as two-at-reads
-use Rattle.text.proofs.writer.field.Reads as field-reads
+use Rattle.numerals.proofs.field.Reads as field-reads
 
 -- src/writer.rt:94:26
 two-at-requires : tie.Need-two-at-requires

@@ -1,4 +1,4 @@
--- `text::writer::put` meets its contract: a byte beyond the end changes nothing. Assumes nothing.
+-- `numerals::put` meets its contract: a byte beyond the end changes nothing. Assumes nothing.
 use mathlib.Core.Path.{_≡_, sym, ap, _∙_}
 use mathlib.Core.Logic.{inl, inr}
 use native.Mathlib.Omega.{arith}
@@ -6,8 +6,8 @@ use lib.ListN.{length, set, length-set}
 use lib.Seq.{set-out}
 use Rattle.writing.specs.Laid.{laid}
 use borrow.Author.Needs.{needs}
-use Rattle.text.proofs.writer.put.Statement.{statement}
-use Rattle.text.proofs.writer.put.Tie as tie
+use Rattle.numerals.proofs.put.Statement.{statement}
+use Rattle.numerals.proofs.put.Tie as tie
 
 slice-write-out : tie.Need-slice-write-out
 slice-write-out c = search needs

@@ -6,9 +6,8 @@ ghost use Prim.Native.Nat.{_+_, _^_, _<_, _≤_};
 ghost use lib.ListN.{length};
 ghost use Rattle.words.specs.Words.{signed};
 ghost use Rattle.records.specs.Records.{at, two};
-ghost use Rattle.text.specs.Numerals.{decimal, signed-decimal};
-ghost use Rattle.text.specs.Text.{named, signed-named, line-feed};
-ghost use Rattle.text.specs.Texting.{Wrote, most-digits};
+ghost use Rattle.numerals.specs.Numerals.{decimal, signed-decimal, named, signed-named, line-feed};
+ghost use Rattle.numerals.specs.Wrote.{Wrote, most-digits};
 use records::reading::two_at;
 
 // One byte.

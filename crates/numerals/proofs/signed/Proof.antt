@@ -1,12 +1,12 @@
 use native.Mathlib.Omega.{arith}
-use Rattle.text.proofs.NumberLaws.{signed-up, signed-down}
+use Rattle.numerals.proofs.NumberLaws.{signed-up, signed-down}
 use borrow.Author.Needs.{needs}
-use Rattle.text.proofs.writer.signed.Statement.{statement}
-use Rattle.text.proofs.writer.signed.Tie as tie
-use Rattle.text.proofs.writer.signed.Reads as reads
-use Rattle.text.proofs.writer.signed.Lts as lts
-use Rattle.text.proofs.writer.number.Reads as number-reads
-use Rattle.text.proofs.writer.put.Reads as put-reads
+use Rattle.numerals.proofs.signed.Statement.{statement}
+use Rattle.numerals.proofs.signed.Tie as tie
+use Rattle.numerals.proofs.signed.Reads as reads
+use Rattle.numerals.proofs.signed.Lts as lts
+use Rattle.numerals.proofs.number.Reads as number-reads
+use Rattle.numerals.proofs.put.Reads as put-reads
 
 -- src/writer.rt:64:9
 number-requires : tie.Need-number-requires

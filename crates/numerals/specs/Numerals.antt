@@ -1,4 +1,4 @@
--- Words and numbers as bytes. Assumes nothing.
+-- Words, numbers and named numbers as bytes of text. Assumes nothing.
 use mathlib.Core.Bool.{cond}
 use mathlib.Core.List.{List, [] as []ᴸ, _∷_ as _∷ᴸ_, _++_}
 use Prim.Native.Nat.{ℕ, zero, suc, _+_, _/_, _%_}
@@ -29,3 +29,19 @@ decimal n = digits (suc n) n
 abbrev pub signed-decimal : ℤ → List ℕ
 signed-decimal (pos n) = decimal n
 signed-decimal (negsuc n) = ascii "-" ++ decimal (suc n)
+
+-- a name and its number, behind it
+unfoldable pub named : List ℕ → ℕ → List ℕ
+named name n = name ++ decimal n
+
+abbrev pub field : String → ℕ → List ℕ
+field name n = named (ascii name) n
+
+unfoldable pub signed-named : List ℕ → ℤ → List ℕ
+signed-named name z = name ++ signed-decimal z
+
+abbrev pub signed-field : String → ℤ → List ℕ
+signed-field name z = signed-named (ascii name) z
+
+abbrev pub line-feed : List ℕ
+line-feed = ascii "\n"
