@@ -21,7 +21,7 @@ use Rattle.words.proofs.LoopLaws.{passed?}
 use Rattle.records.specs.declared.Node.{Node}
 use Rattle.slots.specs.declared.Slots.{Slots}
 use Rattle.records.specs.Records.{at, two, clashes, runs-in, occupied}
-use Rattle.slots.proofs.SlotLaws.{occupied-ones}
+use Rattle.slots.proofs.SlotLaws.{occupied-ones, occupied-most}
 use Rattle.plans.specs.declared.Plan.{Plan as Header}
 use Rattle.plans.specs.Plan.{Plan, PlanUnit, unit-in, node-in, switch-in, plan-read}
 use Rattle.plans.specs.Heads.{Whole}
@@ -66,15 +66,8 @@ module _ (p : Plan) where
 
 -- ---- idle counts
 
-count-most : (n : ℕ) (t : ℕ → Bool) → count n t ≤ n
-unfolding count total
-count-most zero t = omega arith
-count-most (suc n) t = elim (passed? (t n)) [ inl y ↦ rw y (omega (arith, count-most n t)) | inr z ↦ rw z (omega (arith, count-most n t)) ]
-
 pub ones-most : (p : Plan) (q : ℕ) (tap : ℤ) (mask : ℕ) → UnitFigures p q tap mask → ones mask ≤ p .fold
-unfolding occupied
-ones-most p q tap mask f =
-    omega (arith, f .ones-are, count-most (p .fold) (λ v. some-of (length (p .nodes)) (λ x. runs-in q v (node-in p x .node))))
+ones-most p q tap mask f = omega (arith, f .ones-are, occupied-most (p .fold) (length (p .nodes)) (λ x. node-in p x .node) q)
 
 -- ---- a unit's figures
 
