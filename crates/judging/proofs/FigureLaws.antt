@@ -1,9 +1,9 @@
 -- Lines and idle counts: the largest taps, switch by switch, and a unit's figures. Assumes nothing.
 use mathlib.Core.Path.{_≡_, refl, sym, ap, ap₂, _∙_}
-use mathlib.Core.Logic.{_⊎_, inl, inr}
+use mathlib.Core.Logic.{inl, inr}
 use mathlib.Core.Bool.{Bool, true, false, cond, _&&_}
 use mathlib.Core.List.{List}
-use Prim.Native.Nat.{ℕ, zero, suc, _+_, _*_, _-_, max, _<_, _≤_}
+use Prim.Native.Nat.{ℕ, _+_, _*_, _-_, max, _<_, _≤_}
 use native.Mathlib.Numerals.{add-one}
 use native.Mathlib.Decide.{ℕ-discrete}
 use native.Mathlib.Omega.{arith}
@@ -15,12 +15,12 @@ use lib.ListN.{length, getD, set, replicate, getD-replicate}
 use lib.Seq.{getD-set-same, getD-set-other}
 use borrow.Author.Tests.{leb-true, leb-false, eq-eqb, ne-eqb}
 use Rattle.words.specs.declared.time.Cycles.{Cycles}
-use Rattle.words.specs.Loops.{some-of, largest, total, count}
+use Rattle.words.specs.Loops.{largest}
 use Rattle.words.specs.Times.{eqZ}
 use Rattle.words.proofs.LoopLaws.{passed?}
 use Rattle.records.specs.declared.Node.{Node}
 use Rattle.slots.specs.declared.Slots.{Slots}
-use Rattle.records.specs.Records.{at, two, clashes, runs-in, occupied}
+use Rattle.records.specs.Records.{at, two, clashes, occupied}
 use Rattle.slots.proofs.SlotLaws.{occupied-ones, occupied-most}
 use Rattle.plans.specs.declared.Plan.{Plan as Header}
 use Rattle.plans.specs.Plan.{Plan, PlanUnit, unit-in, node-in, switch-in, plan-read}

@@ -4,10 +4,9 @@ use mathlib.Core.Bool.{Bool, true, false}
 use mathlib.Core.List.{List}
 use Prim.Native.Nat.{ℕ, zero, suc, _<_, _≤_}
 use native.Mathlib.Omega.{arith}
-use lib.Dec.{leb}
 use lib.ListN.{length}
 use borrow.Author.Tests.{le-leb, lt-leb, ne-eqb}
-use Rattle.words.specs.Loops.{unless, _then_}
+use Rattle.words.specs.Loops.{unless}
 use Rattle.records.specs.Records.{over}
 use Rattle.records.specs.declared.reading.Reason.{Reason}
 use Rattle.records.specs.Answers.{reason-number}
@@ -22,7 +21,7 @@ use Rattle.folding.specs.Walks.{foldable}
 use Rattle.folding.specs.Folding.{net}
 use Rattle.plans.specs.Plan.{plan-bytes}
 use Rattle.planner.specs.PlanOf.{plan-of}
-use Rattle.planner.specs.Planning.{plan-length, plan-number, answered-length, left-in, LoopShown, Planning}
+use Rattle.planner.specs.Planning.{plan-length, plan-number, LoopShown, Planning}
 
 -- ---- the judge's answer
 

@@ -1,6 +1,6 @@
 -- Records of one length laid one behind the other: with one more behind the last, one more of them is laid. Assumes nothing.
 use mathlib.Core.Path.{_≡_, refl, sym, ap, _∙_}
-use mathlib.Core.List.{List, [], _∷_, _++_, append-assoc, append-nil}
+use mathlib.Core.List.{List, _++_, append-assoc, append-nil}
 use Prim.Native.Nat.{ℕ, zero, suc, _+_, _*_, _≤_}
 use native.Mathlib.Numerals.{add-one}
 use native.Mathlib.Omega.{arith}
@@ -35,10 +35,10 @@ module _ {A : Type 0} (f : A → List ℕ) (k : ℕ) (len : (a : A) → length (
   laid-more l at n now after a was is lays =
       lays
       ∙ rw (was, is) (sym (
-        ap (λ (m : ℕ). laid l at (concat f (tab m g))) (add-one n)
-        ∙ ap (laid l at) (concat-more f n g)
-        ∙ laid-append l at (concat f (tab n g)) (f (g n))
-        ∙ ap (λ (m : ℕ). laid (laid l at (concat f (tab n g))) (at + m) (f (g n))) (length-records n)))
+      ap (λ (m : ℕ). laid l at (concat f (tab m g))) (add-one n)
+      ∙ ap (laid l at) (concat-more f n g)
+      ∙ laid-append l at (concat f (tab n g)) (f (g n))
+      ∙ ap (λ (m : ℕ). laid (laid l at (concat f (tab n g))) (at + m) (f (g n))) (length-records n)))
 
 -- a loop's wires at the head of the buffer
 pub loop-laid : (wires l now : List ℕ) (n : ℕ) → n ≡ length wires → loop-length * length wires ≤ length l →

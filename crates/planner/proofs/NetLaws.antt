@@ -1,19 +1,19 @@
 -- The net that the rounds and the loop's search read in the bytes is the sheet's, and what they answer is said of it. Assumes nothing.
 use mathlib.Core.Path.{_≡_, refl, sym, ap, _∙_}
-use mathlib.Core.Bool.{Bool, true, false}
+use mathlib.Core.Bool.{Bool, true}
 use mathlib.Core.List.{List}
 use Prim.Native.Nat.{ℕ, _<_}
 use native.Mathlib.Omega.{arith}
-use lib.ListN.{length, getD}
+use lib.ListN.{getD}
 use lib.IntN.{pos}
 use Rattle.words.specs.declared.time.Iterations.{Iterations}
 use Rattle.words.specs.Times.{iterations-at}
-use Rattle.records.specs.Records.{units-in, nodes-in, wires-in, node-place}
+use Rattle.records.specs.Records.{nodes-in, wires-in, node-place}
 use Rattle.records.specs.Answers.{wire-run}
 use Rattle.sheets.specs.declared.Sheet as Head
 use Rattle.sheets.specs.Sheet.{sheet-format, sheet-of}
 use Rattle.sheets.proofs.HeldLaws.{units-said, nodes-said, wires-said}
-use Rattle.folding.specs.Walks.{Net, foldable, chain, start}
+use Rattle.folding.specs.Walks.{Net, foldable, chain}
 use Rattle.folding.specs.Folding.{net, bound}
 use Rattle.folding.proofs.AlikeLaws.{Alike, foldable-cong, chain-cong, starts-cong}
 use Rattle.rounds.specs.declared.Retimed.{Retimed}

@@ -1,5 +1,5 @@
 -- A unit's figures from the masks and the longest taps: the record that is laid is the plan's. Assumes nothing.
-use mathlib.Core.Path.{_≡_, refl, sym, ap, _∙_}
+use mathlib.Core.Path.{_≡_, refl, ap, _∙_}
 use mathlib.Core.List.{List}
 use Prim.Native.Nat.{ℕ, _-_, _<_, _≤_}
 use native.Mathlib.Omega.{arith}
@@ -17,7 +17,6 @@ use Rattle.sheets.specs.declared.Sheet as Head
 use Rattle.sheets.specs.Sheet.{sheet-of, unit-of, node-of}
 use Rattle.sheets.specs.Answers.{Held}
 use Rattle.sheets.proofs.AnswerLaws.{held-of}
-use Rattle.plans.specs.Plan.{PlanUnit}
 use Rattle.plans.specs.Judging.{longest-tap}
 use Rattle.waits.specs.Fine.{Fine, Longest, from-unit}
 use Rattle.waits.proofs.FineLaws.{sound-so, fold-so, nodes-so, fold-some}

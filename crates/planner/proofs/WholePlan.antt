@@ -13,12 +13,12 @@ use Rattle.folding.specs.Walks.{chain}
 use Rattle.folding.specs.Folding.{net}
 use Rattle.folding.specs.Lifetime.{registers}
 use Rattle.folding.proofs.FoldingLaws.{Foldable}
-use Rattle.plans.specs.Plan.{Plan, unit-bytes, node-bytes, switch-bytes, head-bytes, header-bytes, concat, plan-bytes}
+use Rattle.plans.specs.Plan.{Plan, unit-bytes, node-bytes, head-bytes, plan-bytes}
 use Rattle.waits.specs.Fine.{Fine}
 use Rattle.waits.proofs.FineLaws.{passed-so, fold-so, units-so, nodes-so, wires-so}
 use Rattle.writing.specs.Laid.{laid}
 use Rattle.writing.proofs.LaidLaws.{laid-append, laid-over}
-use Rattle.planner.specs.PlanOf.{plan-unit, plan-node, plan-switch, plan-with, plan-of}
+use Rattle.planner.specs.PlanOf.{plan-unit, plan-node, plan-with, plan-of}
 use Rattle.planner.specs.Laying.{starts-in, unit-records, node-records, switch-records}
 use Rattle.planner.specs.Planning.{plan-length}
 use Rattle.planner.proofs.PlanLaws.{units-as, nodes-as, wires-as}
@@ -66,7 +66,7 @@ module _ (b : List ℕ) (s : Head.Sheet) (f : Fine b s) (ok : Foldable (sheet-of
       let after-nodes : 9 + length U + length X ≡ wires = omega (arith, lu, lx, ew) in
       w ∙ rw (x, u, h, eu)
       (sym (
-        ap (λ (z : ℕ). laid (laid (laid (laid l 0 (head n k)) 9 U) z X) wires W) after-units))
+      ap (λ (z : ℕ). laid (laid (laid (laid l 0 (head n k)) 9 U) z X) wires W) after-units))
       ∙ sym (ap (λ (z : ℕ). laid (laid (laid (laid l 0 (head n k)) 9 U) (9 + length U) X) z W) after-nodes)
       ∙ sym (runs-laid l (head n k) U X W)
       ∙ ap (laid l 0) (runs n k en ek)

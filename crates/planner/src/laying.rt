@@ -1,6 +1,6 @@
 // A plan's records laid into the lent buffer, the ones of each sort behind one another.
 ghost use mathlib.Core.Path.{_≡_};
-ghost use Prim.Native.Nat.{ℕ, _+_, _-_, _*_, _<_, _≤_};
+ghost use Prim.Native.Nat.{_+_, _-_, _*_, _<_, _≤_};
 ghost use lib.Count.{ones};
 ghost use lib.ListN.{length};
 ghost use Rattle.sheets.specs.Sheet.{sheet-of, node-of};

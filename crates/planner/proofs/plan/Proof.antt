@@ -1,10 +1,7 @@
 -- `planner::plan` meets its contract: a sheet with a fault is refused, and nothing changes. Assumes nothing.
-use mathlib.Core.Path.{_≡_, sym, _∙_, subst}
-use Prim.Native.Nat.{ℕ}
-use native.Mathlib.Omega.{arith}
+use mathlib.Core.Path.{sym, _∙_}
 use borrow.Author.Needs.{needs}
 use Rattle.records.proofs.AnswerLaws.{reason-positive}
-use Rattle.planner.specs.Planning.{Planning}
 use Rattle.planner.proofs.AnswerLaws.{got-fine, why-fault, planning-refused}
 use Rattle.planner.proofs.plan.Statement.{statement}
 use Rattle.planner.proofs.plan.Tie as tie

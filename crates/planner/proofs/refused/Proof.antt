@@ -1,9 +1,6 @@
 -- `planner::refused` meets its contract: each reason has its case. Assumes nothing.
-use mathlib.Core.Path.{_≡_, sym, ap, _∙_, subst}
-use Prim.Native.Nat.{ℕ, _≤_}
 use native.Mathlib.Omega.{arith}
 use borrow.Author.Needs.{needs}
-use Rattle.records.specs.Answers.{reason-number}
 use Rattle.planner.proofs.refused.Statement.{statement}
 use Rattle.planner.proofs.refused.Tie as tie
 

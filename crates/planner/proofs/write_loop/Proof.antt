@@ -45,7 +45,7 @@ loop-again c =
       omega (arith, more),
       ap length (now .ensures) ∙ length-laid (l .out) (3 * l .i) _ ∙ l .inv .1,
       laid-more loop-wire-bytes 3 (λ a. refl) (λ j. getD (s .args .wires .now) j 0) (s .args .out .now) 0 (l .i) (l .out) (now .last .0) (getD (s .args .wires .now) (l .i) 0) (l .inv .2) refl
-      (now .ensures ∙ ap (λ (n : ℕ). laid (l .out) n (loop-wire-bytes (getD (s .args .wires .now) (l .i) 0))) (let e : 3 * l .i ≡ 0 + 3 * l .i = omega arith in e)),
+          (now .ensures ∙ ap (λ (n : ℕ). laid (l .out) n (loop-wire-bytes (getD (s .args .wires .now) (l .i) 0))) (let e : 3 * l .i ≡ 0 + 3 * l .i = omega arith in e)),
     )
 
 same-length : tie.Need-same-length Inv-loop μ-loop
