@@ -10,3 +10,4 @@ pub mod WholePlan
 pub mod NetLaws
 pub mod AnswerLaws
 pub mod LoopLaws
+pub mod OneResult
