@@ -1,9 +1,9 @@
 -- Lines and idle counts: the largest taps, switch by switch, and a unit's figures. Assumes nothing.
 use mathlib.Core.Path.{_≡_, refl, sym, ap, ap₂, _∙_}
-use mathlib.Core.Logic.{_⊎_, inl, inr}
+use mathlib.Core.Logic.{inl, inr}
 use mathlib.Core.Bool.{Bool, true, false, cond, _&&_}
 use mathlib.Core.List.{List}
-use Prim.Native.Nat.{ℕ, zero, suc, _+_, _*_, _-_, max, _<_, _≤_}
+use Prim.Native.Nat.{ℕ, _+_, _*_, _-_, max, _<_, _≤_}
 use native.Mathlib.Numerals.{add-one}
 use native.Mathlib.Decide.{ℕ-discrete}
 use native.Mathlib.Omega.{arith}
@@ -15,13 +15,13 @@ use lib.ListN.{length, getD, set, replicate, getD-replicate}
 use lib.Seq.{getD-set-same, getD-set-other}
 use borrow.Author.Tests.{leb-true, leb-false, eq-eqb, ne-eqb}
 use Rattle.words.specs.declared.time.Cycles.{Cycles}
-use Rattle.words.specs.Loops.{some-of, largest, total, count}
+use Rattle.words.specs.Loops.{largest}
 use Rattle.words.specs.Times.{eqZ}
 use Rattle.words.proofs.LoopLaws.{passed?}
 use Rattle.records.specs.declared.Node.{Node}
 use Rattle.slots.specs.declared.Slots.{Slots}
-use Rattle.records.specs.Records.{at, two, clashes, runs-in, occupied}
-use Rattle.slots.proofs.SlotLaws.{occupied-ones}
+use Rattle.records.specs.Records.{at, two, clashes, occupied}
+use Rattle.slots.proofs.SlotLaws.{occupied-ones, occupied-most}
 use Rattle.plans.specs.declared.Plan.{Plan as Header}
 use Rattle.plans.specs.Plan.{Plan, PlanUnit, unit-in, node-in, switch-in, plan-read}
 use Rattle.plans.specs.Heads.{Whole}
@@ -66,15 +66,8 @@ module _ (p : Plan) where
 
 -- ---- idle counts
 
-count-most : (n : ℕ) (t : ℕ → Bool) → count n t ≤ n
-unfolding count total
-count-most zero t = omega arith
-count-most (suc n) t = elim (passed? (t n)) [ inl y ↦ rw y (omega (arith, count-most n t)) | inr z ↦ rw z (omega (arith, count-most n t)) ]
-
 pub ones-most : (p : Plan) (q : ℕ) (tap : ℤ) (mask : ℕ) → UnitFigures p q tap mask → ones mask ≤ p .fold
-unfolding occupied
-ones-most p q tap mask f =
-    omega (arith, f .ones-are, count-most (p .fold) (λ v. some-of (length (p .nodes)) (λ x. runs-in q v (node-in p x .node))))
+ones-most p q tap mask f = omega (arith, f .ones-are, occupied-most (p .fold) (length (p .nodes)) (λ x. node-in p x .node) q)
 
 -- ---- a unit's figures
 

@@ -76,5 +76,11 @@ one-step b m c o r s after other out shown x y = (
   x .output-is ∙ sym (y .output-is),
 )
 
+-- as numbers, as C has them
+pub one-needing : (b : List ℕ) (n n′ w w′ : ℕ) → Needing b n w → Needing b n′ w′ → (n ≡ n′) × (w ≡ w′)
+one-needing b n n′ w w′ x y = (x .number-is ∙ sym (y .number-is), x .words-is ∙ sym (y .words-is))
+
 pub one-need : (b : List ℕ) (r s : Needed) → Needing b (needed-number r) (needed-words r) → Needing b (needed-number s) (needed-words s) → r ≡ s
-one-need b r s x y = sym (needed-back r) ∙ ap₂ needed-of (x .number-is ∙ sym (y .number-is)) (x .words-is ∙ sym (y .words-is)) ∙ needed-back s
+one-need b r s x y =
+    let o = one-needing b (needed-number r) (needed-number s) (needed-words r) (needed-words s) x y in
+    sym (needed-back r) ∙ ap₂ needed-of (o .0) (o .1) ∙ needed-back s

@@ -3,3 +3,5 @@
 pub mod PlanOf
 pub mod Folds
 pub mod Planning
+pub mod Laying
+pub mod Calls

@@ -1,1 +1,166 @@
-// The planner.
+// The planner: any bytes as a sheet in, and a plan, a loop or one numbered refusal out. The sheet is judged first, then the lent
+// buffer, then whether the sheet folds; a refusal other than 6 changes nothing.
+ghost use mathlib.Core.Path.{_≡_};
+ghost use mathlib.Core.Bool.{false};
+ghost use Prim.Native.Nat.{ℕ, _*_, _<_, _≤_};
+ghost use lib.ListN.{length};
+ghost use Rattle.words.specs.Times.{iterations-at};
+ghost use Rattle.records.specs.Records.{over};
+ghost use Rattle.records.specs.Answers.{reason-number};
+ghost use Rattle.sheets.specs.Sheet.{sheet-of};
+ghost use Rattle.folding.specs.Walks.{foldable, chain};
+ghost use Rattle.folding.specs.Folding.{net, bound};
+ghost use Rattle.plans.specs.Plan.{plan-bytes, loop-bytes, loop-length};
+ghost use Rattle.waits.specs.Fine.{Fine, Started};
+ghost use Rattle.planner.specs.PlanOf.{plan-of};
+ghost use Rattle.planner.specs.Planning.{plan-length, LoopShown, Planning};
+ghost use Rattle.planner.specs.Calls.{planned-number, planned-length};
+use crate::laying::write_nodes;
+use crate::laying::write_switches;
+use crate::laying::write_units;
+use lifetimes::registers;
+use loops::find_loop;
+use plans::Plan;
+use records::reading::Reason;
+use rounds::retime;
+use sheets::Sheet;
+use sheets::judging::SheetRead;
+use sheets::judging::judge;
+use sheets::judging::slots_of;
+use waits::lines;
+use waits::longest_waits;
+use words::time::Cycles;
+use words::time::Iterations;
+use writing::write_header;
+use writing::write_loop_wire;
+
+pub mod laying;
+
+// What the planner answers: a case for each of the numbers 0 to 7, with the length where it has one.
+pub enum Planned {
+    Done(usize),
+    Length,
+    Mark,
+    Range,
+    Clash,
+    Unfed,
+    Unfoldable(usize),
+    Short(usize),
+}
+
+// A sheet's fault; it is never one of a plan's figures.
+fn refused(why: Reason) -> Planned
+    requires { ⌜ reason-number why ≤ 5 ⌝ }
+    ensures { λ r. ⌜ (planned-number r ≡ reason-number why) × (planned-length r ≡ 0) ⌝ }
+{
+    match why {
+        Reason::Length => Planned::Length,
+        Reason::Mark => Planned::Mark,
+        Reason::Range => Planned::Range,
+        Reason::Clash => Planned::Clash,
+        Reason::Unfed => Planned::Unfed,
+        Reason::Figures => Planned::Unfed,
+    }
+}
+
+// What the plan of a sheet counts.
+fn plan_head(sheet: Sheet) -> Plan
+    ensures { λ r. ⌜ r ≡ record { fold = sheet .fold; units = sheet .units; nodes = sheet .nodes; wires = sheet .wires } ⌝ }
+{
+    Plan::new(sheet.fold, sheet.units, sheet.nodes, sheet.wires)
+}
+
+// The plan of a sheet that folds, at the head of the buffer.
+fn write_plan(
+    b: &[u8],
+    sheet: Sheet,
+    starts: [Iterations; Sheet::MOST_NODES],
+    rounds: u8,
+    made: [Cycles; Sheet::MOST_WIRES],
+    out: &mut [u8],
+)
+    requires { ⌜ Fine (now b) sheet ⌝ }
+    requires { ⌜ Started (now b) starts ⌝ }
+    requires { ⌜ rounds ≡ chain (net (sheet-of (now b))) ⌝ }
+    requires { ⌜ plan-length (now b) ≤ length (now out) ⌝ }
+    ensures { λ r. ⌜ now (out .exit) ≡ over (plan-bytes (plan-of (sheet-of (now (b .entry))))) (now (out .entry)) ⌝ }
+{
+    let plan = plan_head(sheet);
+    let waits = waits::waits(b, sheet, starts, made);
+    let longest = longest_waits(b, sheet, waits);
+    write_header(out, plan, registers(b, sheet, longest), rounds);
+    let lines = lines(b, sheet, waits);
+    write_units(b, sheet, lines, slots_of(b, sheet), plan.unit_place(0), out);
+    write_nodes(b, sheet, starts, plan.node_place(0), out);
+    write_switches(b, sheet, waits, plan.switch_place(0), out);
+}
+
+// The wires of a loop, each in its record, at the head of the buffer.
+fn write_loop(wires: &[u8], out: &mut [u8])
+    requires { ⌜ loop-length * length (now wires) ≤ length (now out) ⌝ }
+    ensures { λ r. ⌜ now (out .exit) ≡ over (loop-bytes (now (wires .entry))) (now (out .entry)) ⌝ }
+{
+    let mut i = 0;
+    while i < wires.len() {
+        write_loop_wire(out, Plan::LOOP * i, wires[i]);
+        i += 1;
+    }
+}
+
+// A loop of a sheet that does not fold, and how many bytes it takes.
+fn show_loop(
+    b: &[u8],
+    sheet: Sheet,
+    bounds: [Iterations; Sheet::MOST_WIRES],
+    out: &mut [u8],
+) -> usize
+    requires { ⌜ Fine (now b) sheet ⌝ }
+    requires { ⌜ ((e : ℕ) → e < sheet .wires → iterations-at bounds e ≡ bound (sheet-of (now b)) e) ⌝ }
+    requires { ⌜ foldable (net (sheet-of (now b))) ≡ false ⌝ }
+    requires { ⌜ plan-length (now b) ≤ length (now out) ⌝ }
+    ensures { λ r. ⌜ LoopShown (now (b .entry)) (now (out .entry)) r (now (out .exit)) ⌝ }
+{
+    let at = sheet.wire_run().at;
+    let found = find_loop(b, at, sheet.wires as usize, sheet.nodes as usize, bounds);
+    let wires = found.wires;
+    write_loop(&wires[..found.count], out);
+    Plan::LOOP * found.count
+}
+
+// A sheet without fault: its plan where there is room for one and the sheet folds.
+fn plan_judged(
+    b: &[u8],
+    sheet: Sheet,
+    made: [Iterations; Sheet::MOST_WIRES],
+    waits: [Cycles; Sheet::MOST_WIRES],
+    out: &mut [u8],
+) -> Planned
+    requires { ⌜ Fine (now b) sheet ⌝ }
+    ensures { λ r. ⌜ Planning (now (b .entry)) (now (out .entry)) (planned-number r) (planned-length r) (now (out .exit)) ⌝ }
+{
+    let size = plan_head(sheet).switch_place(sheet.wires as usize);
+    if out.len() < size {
+        return Planned::Short(size);
+    }
+    let bounds = waits::bounds(b, sheet, made);
+    let at = sheet.wire_run().at;
+    let timed = retime(b, at, sheet.wires as usize, sheet.nodes as usize, bounds);
+    if !timed.settled {
+        return Planned::Unfoldable(show_loop(b, sheet, bounds, out));
+    }
+    let starts = timed.starts;
+    write_plan(b, sheet, starts, timed.rounds, waits, out);
+    Planned::Done(size)
+}
+
+// The plan of a sheet, or why there is none.
+pub fn plan(sheet: &[u8], out: &mut [u8]) -> Planned
+    ensures { λ r. ⌜ Planning (now (sheet .entry)) (now (out .entry)) (planned-number r) (planned-length r) (now (out .exit)) ⌝ }
+{
+    let bounds = [Iterations::zero(); Sheet::MOST_WIRES];
+    let waits = [Cycles::zero(); Sheet::MOST_WIRES];
+    match judge(sheet) {
+        SheetRead::Got(s) => plan_judged(sheet, s, bounds, waits, out),
+        SheetRead::Refused(why) => refused(why),
+    }
+}

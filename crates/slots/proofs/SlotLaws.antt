@@ -13,7 +13,7 @@ use borrow.Author.Tests.{eqb-true, ne-eqb}
 use Rattle.words.specs.Loops.{some-of}
 use Rattle.words.specs.Masks.{in-mask, with-slot}
 use Rattle.words.proofs.LoopLaws.{some-none, some-or, some-of-cong}
-use Rattle.words.proofs.CountLaws.{count-short}
+use Rattle.words.proofs.CountLaws.{count-most, count-short}
 use Rattle.words.proofs.MaskLaws.{ones-are}
 use Rattle.records.specs.declared.Node.{Node}
 use Rattle.slots.specs.declared.Slots.{Slots}
@@ -101,6 +101,11 @@ occupied-ones fold n node s q t h turn =
   where
     beyond : (v : ℕ) → fold ≤ v → (x : ℕ) → x < n → runs-in q v (node x) ≡ false
     beyond v l x k = rw (ne-eqb (node x .slot) v (λ e. let u = turn x k in omega arith)) (and-false (eqb (node x .unit) q))
+
+-- at most all N slots are
+pub occupied-most : (fold n : ℕ) (node : ℕ → Node) (q : ℕ) → occupied fold n node q ≤ fold
+unfolding occupied
+occupied-most fold n node q = count-most fold (λ v. some-of n (λ x. runs-in q v (node x)))
 
 -- ---- nodes read in two ways
 

@@ -19,6 +19,12 @@ unfolding count total
 count-none zero p h = refl
 count-none (suc n) p h = rw (h n (omega arith)) (omega (arith, count-none n p (λ i l. h i (omega arith))))
 
+-- at most all of them pass
+pub count-most : (n : ℕ) (p : ℕ → Bool) → count n p ≤ n
+unfolding count total
+count-most zero p = omega arith
+count-most (suc n) p = elim (passed? (p n)) [ inl t ↦ rw t (omega (arith, count-most n p)) | inr f ↦ rw f (omega (arith, count-most n p)) ]
+
 -- one i alone passes
 pub count-one : (n : ℕ) (p : ℕ → Bool) (i : ℕ) → i < n → p i ≡ true → ((j : ℕ) → j < n → p j ≡ true → j ≡ i) → count n p ≡ 1
 unfolding count total

@@ -1,0 +1,108 @@
+-- `planner::plan_judged` meets its contract: a short buffer, then a loop, then the plan. Assumes nothing.
+use mathlib.Core.Path.{_≡_, sym, ap, _∙_}
+use mathlib.Core.Bool.{true, false}
+use native.Mathlib.Omega.{arith}
+use borrow.Author.Needs.{needs}
+use borrow.Author.Tests.{not-true, not-false}
+use Rattle.records.specs.declared.reading.Run.{Run}
+use Rattle.planner.specs.Planning.{plan-length}
+use Rattle.planner.proofs.WholePlan.{room-so}
+use Rattle.planner.proofs.NetLaws.{here-wired, here-moderate, settled-folds, timed-chain, timed-starts}
+use Rattle.planner.proofs.AnswerLaws.{planning-short, planning-loop, planning-done}
+use Rattle.planner.proofs.plan_judged.Statement.{statement}
+use Rattle.planner.proofs.plan_judged.Tie as tie
+
+plan-head-requires : tie.Need-plan-head-requires
+plan-head-requires c κs = search needs
+
+cast-switch-place : tie.Need-cast-switch-place
+cast-switch-place c = search needs
+
+switch-place-requires : tie.Need-switch-place-requires
+switch-place-requires c κs = search needs
+
+-- the size is the plan's length
+sized : (c : tie.After-switch-place) → let s = c .before .before .before .before .before in c .switch-place .result ≡ plan-length (s .args .b .now)
+sized c =
+    let s = c .before .before .before .before .before in
+    rw (c .before .before .plan-head .ensures) at (c .switch-place .ensures) ∙ sym (room-so (s .args .b .now) (s .args .sheet) (s .pre))
+
+returns : tie.Need-returns
+returns c = let s = c .before .before .before .before .before .before in planning-short (s .args .b .now) (s .args .out .now) (s .pre .fine) (c .before .switch-place .result) (sized (c .before)) (c .if1 .taken)
+
+bounds-requires : tie.Need-bounds-requires
+bounds-requires c κs = search needs
+
+wire-run-requires : tie.Need-wire-run-requires
+wire-run-requires c κs = search needs
+
+cast-retime : tie.Need-cast-retime
+cast-retime c = search needs
+
+cast-retime-2 : tie.Need-cast-retime-2
+cast-retime-2 c = search needs
+
+retime-requires : tie.Need-retime-requires
+retime-requires c κs =
+    let s = c .before .before .before .before .before .before .before .before .before .before in
+    let there = ap (λ (r : Run). r .at) (c .before .before .wire-run .ensures) in
+    (here-wired (s .args .b .now) (s .args .sheet) (s .pre) (c .before .before .before .bounds .result) (c .before .before .before .bounds .ensures) _ there, here-moderate (s .args .b .now) (s .args .sheet) (s .pre) (c .before .before .before .bounds .result) (c .before .before .before .bounds .ensures) _ there)
+
+show-loop-requires : tie.Need-show-loop-requires
+show-loop-requires c κs =
+    let s = c .before .before .before .before .before .before .before .before .before .before .before .before .before .before in
+    let there = ap (λ (r : Run). r .at) (c .before .before .before .before .before .before .wire-run .ensures) in
+    let bounds = c .before .before .before .before .before .before .before .bounds in
+    let timed = c .before .before .before .retime in
+    (s .pre, (bounds .ensures, (settled-folds (s .args .b .now) (s .args .sheet) (s .pre) (bounds .result) (bounds .ensures) _ there (timed .result) (timed .ensures) false (not-true _ (c .before .if2 .taken)), omega (arith, sized (c .before .before .before .before .before .before .before .before .before), c .before .before .before .before .before .before .before .before .if1 .left))))
+
+same-length : tie.Need-same-length
+same-length c = search needs
+
+returns-2 : tie.Need-returns-2
+returns-2 c =
+    let s = c .before .before .before .before .before .before .before .before .before .before .before .before .before .before .before .before .before in
+    let there = ap (λ (r : Run). r .at) (c .before .before .before .before .before .before .before .before .before .wire-run .ensures) in
+    let bounds = c .before .before .before .before .before .before .before .before .before .before .bounds in
+    let timed = c .before .before .before .before .before .before .retime in
+    planning-loop (s .args .b .now) (s .args .out .now) (s .pre .fine) (omega (arith, sized (c .before .before .before .before .before .before .before .before .before .before .before .before), c .before .before .before .before .before .before .before .before .before .before .before .if1 .left)) (settled-folds (s .args .b .now) (s .args .sheet) (s .pre) (bounds .result) (bounds .ensures) _ there (timed .result) (timed .ensures) false (not-true _ (c .before .before .before .before .if2 .taken))) (c .before .before .show-loop .result) _ (c .before .before .show-loop .ensures)
+
+write-plan-requires : tie.Need-write-plan-requires
+write-plan-requires c κs =
+    let s = c .before .before .before .before .before .before .before .before .before .before .before .before .before .before .before in
+    let there = ap (λ (r : Run). r .at) (c .before .before .before .before .before .before .before .wire-run .ensures) in
+    let bounds = c .before .before .before .before .before .before .before .before .bounds in
+    let timed = c .before .before .before .before .retime in
+    let settled : timed .result .settled ≡ true = not-false _ (c .before .before .if2 .left) in
+    (s .pre, (timed-starts (s .args .b .now) (s .args .sheet) (s .pre) (bounds .result) (bounds .ensures) _ there (timed .result) (timed .ensures) settled, (timed-chain (s .args .b .now) (s .args .sheet) (s .pre) (bounds .result) (bounds .ensures) _ there (timed .result) (timed .ensures) settled, omega (arith, sized (c .before .before .before .before .before .before .before .before .before .before), c .before .before .before .before .before .before .before .before .before .if1 .left))))
+
+same-length-2 : tie.Need-same-length-2
+same-length-2 c = search needs
+
+returns-3 : tie.Need-returns-3
+returns-3 c =
+    let s = c .before .before .before .before .before .before .before .before .before .before .before .before .before .before .before .before .before .before in
+    let there = ap (λ (r : Run). r .at) (c .before .before .before .before .before .before .before .before .before .before .wire-run .ensures) in
+    let bounds = c .before .before .before .before .before .before .before .before .before .before .before .bounds in
+    let timed = c .before .before .before .before .before .before .before .retime in
+    planning-done (s .args .b .now) (s .args .out .now) (s .pre .fine) (omega (arith, sized (c .before .before .before .before .before .before .before .before .before .before .before .before .before), c .before .before .before .before .before .before .before .before .before .before .before .before .if1 .left)) (settled-folds (s .args .b .now) (s .args .sheet) (s .pre) (bounds .result) (bounds .ensures) _ there (timed .result) (timed .ensures) true (not-false _ (c .before .before .before .before .before .if2 .left))) (c .before .before .before .before .before .before .before .before .before .before .before .before .before .switch-place .result) (sized (c .before .before .before .before .before .before .before .before .before .before .before .before .before)) _ (c .before .before .write-plan .ensures)
+
+pub plan-judged-spec : {M : Type 1} → statement M
+plan-judged-spec =
+    tie.close
+    (tie.spec
+    plan-head-requires
+    cast-switch-place
+    switch-place-requires
+    returns
+    bounds-requires
+    wire-run-requires
+    cast-retime
+    cast-retime-2
+    retime-requires
+    show-loop-requires
+    same-length
+    returns-2
+    write-plan-requires
+    same-length-2
+    returns-3)
