@@ -1,2 +1,4 @@
--- Laws of lines and of the calls' answers.
+-- Laws of lines, of loops and of the calls' answers.
 pub mod LineLaws
+pub mod LoopLaws
+pub mod TextingLaws
