@@ -1,4 +1,3 @@
--- Laws of lines, of loops and of the calls' answers.
-pub mod LineLaws
+-- Laws of loops and of the calls' answers.
 pub mod LoopLaws
 pub mod TextingLaws

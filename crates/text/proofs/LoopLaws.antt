@@ -18,7 +18,7 @@ use Rattle.records.proofs.ReadingLaws.{record-le}
 use Rattle.records.proofs.AnswerLaws.{reason-back}
 use Rattle.plans.specs.Plan.{loop-mark}
 use Rattle.numerals.specs.Numerals.{field}
-use Rattle.text.specs.Text.{joined}
+use Rattle.lines.specs.Text.{joined}
 use Rattle.text.specs.Texting.{wires-shown, wire-at, loop-wires, loop-whole, wire-fault, loop-fault}
 
 refused-some : (f : ℕ) (why : Reason) → judged f ≡ J.Refused why → 0 < f

@@ -16,7 +16,7 @@ use Rattle.plans.specs.Judging.{plan-fault}
 use Rattle.judging.specs.declared.PlanRead.the-variants as P
 use Rattle.judging.specs.Answers.{plan-answer}
 use Rattle.judging.proofs.AnswerLaws.{why-number, got-fine, got-whole, got-counts}
-use Rattle.text.specs.Text.{plan-text}
+use Rattle.lines.specs.Text.{plan-text}
 use Rattle.text.specs.Texting.{longest, Texting, Got}
 
 texting-fault : (fault : ℕ) (text o : List ℕ) (n len : ℕ) → n ≡ fault → 0 < n → len ≡ 0 → Texting fault text o n len o

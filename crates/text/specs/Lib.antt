@@ -1,3 +1,2 @@
--- What a reader must believe of texts: the lines of a plan and of a refusal, and what the calls answer and leave.
-pub mod Text
+-- What a reader must believe of the text calls: what they answer and leave.
 pub mod Texting

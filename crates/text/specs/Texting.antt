@@ -11,6 +11,7 @@ use Rattle.plans.specs.declared.Plan.{Plan}
 use Rattle.plans.specs.Plan.{loop-mark, loop-length}
 use Rattle.plans.specs.Heads.{Whole}
 use Rattle.plans.specs.Judging.{plan-fault}
+use Rattle.lines.specs.Text.{line-most}
 use Rattle.text.specs.declared.Texted.{Texted}
 use Rattle.text.specs.declared.Texted.the-variants.{Done, Length, Mark, Range, Clash, Unfed, Short, Figures}
 
@@ -37,10 +38,6 @@ texted-length Clash = 0
 texted-length Unfed = 0
 texted-length (Short n) = n
 texted-length Figures = 0
-
--- no line of a plan is longer
-abbrev pub line-most : ℕ
-line-most = 128
 
 -- no text is longer: a plan's has its header's line and one for each unit, node and switch
 abbrev pub longest : ℕ

@@ -6,20 +6,19 @@ ghost use Rattle.records.specs.Answers.{reason-number};
 ghost use Rattle.plans.specs.Plan.{plan-read};
 ghost use Rattle.plans.specs.Judging.{plan-fault};
 ghost use Rattle.judging.specs.Answers.{plan-answer};
-ghost use Rattle.text.specs.Text.{plan-text, refused-text, loop-text};
+ghost use Rattle.lines.specs.Text.{plan-text, refused-text, loop-text};
 ghost use Rattle.text.specs.Texting.{texted-number, texted-length, Texting, loop-wires, loop-fault, Got};
-use crate::lines::plan_lines;
 use crate::refusals::judge_loop;
 use crate::refusals::loop_line;
 use crate::refusals::refused_line;
 use judging::PlanRead;
 use judging::judge;
+use lines::plan_lines;
 use plans::Plan;
 use records::reading::Header;
 use records::reading::Judged;
 use records::reading::Reason;
 
-mod lines;
 mod refusals;
 
 // What a text call answers: the text's length where it is written or does not fit, or a case for each of the numbers 1 to 5 and 9.

@@ -1,7 +1,7 @@
 -- `text::refusals::loop_line` meets its contract: the number, the word, the wires and the line feed. Assumes nothing.
 use native.Mathlib.Omega.{arith}
 use Rattle.numerals.proofs.WroteLaws.{wrote-then, within}
-use Rattle.text.specs.Text.{loop-text}
+use Rattle.lines.specs.Text.{loop-text}
 use Rattle.text.proofs.LoopLaws.{loop-so, wires-so}
 use borrow.Author.Needs.{needs}
 use Rattle.text.proofs.refusals.loop_line.Statement.{statement}

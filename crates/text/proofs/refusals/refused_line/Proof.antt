@@ -2,7 +2,7 @@
 use mathlib.Core.Path.{refl}
 use borrow.Author.Tests.{leb-true}
 use Rattle.numerals.proofs.WroteLaws.{wrote-then, within}
-use Rattle.text.specs.Text.{refused-text}
+use Rattle.lines.specs.Text.{refused-text}
 use borrow.Author.Needs.{needs}
 use Rattle.text.proofs.refusals.refused_line.Statement.{statement}
 use Rattle.text.proofs.refusals.refused_line.Tie as tie

@@ -5,9 +5,9 @@ use native.Mathlib.Omega.{arith}
 use Rattle.numerals.specs.Numerals.{field}
 use Rattle.numerals.specs.Wrote.{Wrote}
 use Rattle.numerals.proofs.WroteLaws.{wrote-length}
-use Rattle.text.specs.Text.{joined}
+use Rattle.lines.specs.Text.{joined}
 use Rattle.text.specs.Texting.{wire-at}
-use Rattle.text.proofs.LineLaws.{lines-none, lines-more, lines-done}
+use Rattle.lines.proofs.LineLaws.{lines-none, lines-more, lines-done}
 use borrow.Author.Needs.{needs}
 use Rattle.text.proofs.refusals.wire_fields.Statement.{statement}
 use Rattle.text.proofs.refusals.wire_fields.Tie as tie

@@ -1,17 +1,17 @@
--- `text::lines::node_lines` meets its contract: each turn writes the line of one node more. Assumes nothing.
+-- `lines::node_lines` meets its contract: each turn writes the line of one node more. Assumes nothing.
 use mathlib.Core.Path.{_≡_, sym, ap, _∙_}
 use Prim.Native.Nat.{ℕ, _-_, _*_, _≤_}
 use native.Mathlib.Omega.{arith}
 use Rattle.plans.specs.Plan.{plan-node-at, plan-read}
 use Rattle.plans.proofs.WholeLaws.{node-inside, node-so}
-use Rattle.text.specs.Text.{joined, node-line, node-lines}
+use Rattle.lines.specs.Text.{joined, node-line, node-lines}
 use Rattle.numerals.specs.Wrote.{Wrote}
-use Rattle.text.specs.Texting.{line-most}
+use Rattle.lines.specs.Text.{line-most}
 use Rattle.numerals.proofs.WroteLaws.{wrote-length}
-use Rattle.text.proofs.LineLaws.{lines-none, lines-more, lines-done}
+use Rattle.lines.proofs.LineLaws.{lines-none, lines-more, lines-done}
 use borrow.Author.Needs.{needs}
-use Rattle.text.proofs.lines.node_lines.Statement.{statement}
-use Rattle.text.proofs.lines.node_lines.Tie as tie
+use Rattle.lines.proofs.node_lines.Statement.{statement}
+use Rattle.lines.proofs.node_lines.Tie as tie
 
 abbrev Inv-loop : tie.InvT-loop
 Inv-loop b p out₀ to count next₀ i₀ out next i = (i ≤ count) × Wrote (line-most * i) out₀ to (joined i (node-lines (plan-read b))) out next

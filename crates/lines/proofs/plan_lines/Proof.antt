@@ -1,10 +1,10 @@
--- `text::lines::plan_lines` meets its contract: the header's line, then each sort of record. Assumes nothing.
+-- `lines::plan_lines` meets its contract: the header's line, then each sort of record. Assumes nothing.
 use native.Mathlib.Omega.{arith}
 use Rattle.numerals.proofs.WroteLaws.{wrote-then, within}
-use Rattle.text.proofs.LineLaws.{text-so}
+use Rattle.lines.proofs.LineLaws.{text-so}
 use borrow.Author.Needs.{needs}
-use Rattle.text.proofs.lines.plan_lines.Statement.{statement}
-use Rattle.text.proofs.lines.plan_lines.Tie as tie
+use Rattle.lines.proofs.plan_lines.Statement.{statement}
+use Rattle.lines.proofs.plan_lines.Tie as tie
 
 head-line-requires : tie.Need-head-line-requires
 head-line-requires c κs = search needs

@@ -1,11 +1,11 @@
--- `text::lines::switch_line` meets its contract: its fields one after the other are the switch's line. Assumes nothing.
+-- `lines::switch_line` meets its contract: its fields one after the other are the switch's line. Assumes nothing.
 use mathlib.Core.Path.{refl}
 use lib.ListN.{length}
 use borrow.Author.Tests.{leb-true}
-use Rattle.text.specs.Text.{switch-line}
+use Rattle.lines.specs.Text.{switch-line}
 use Rattle.numerals.proofs.WroteLaws.{Inside, Room, byte-inside, byte-room, field-room, place-fits, room-left, two-inside, within, wrote-length, wrote-then}
-use Rattle.text.proofs.lines.switch_line.Statement.{statement}
-use Rattle.text.proofs.lines.switch_line.Tie as tie
+use Rattle.lines.proofs.switch_line.Statement.{statement}
+use Rattle.lines.proofs.switch_line.Tie as tie
 
 start-room : (c : tie.Start) → Room (c .args .to) 128
 start-room c = record { fits = c .pre .1 }

@@ -11,7 +11,7 @@ use Rattle.plans.specs.Plan.{plan-read}
 use Rattle.plans.specs.Heads.{Whole}
 use Rattle.plans.proofs.ReadLaws.{fold-read, units-read, nodes-read, switches-read}
 use Rattle.plans.proofs.WholeLaws.{units-so, nodes-so, wires-so}
-use Rattle.text.specs.Text.{joined, head-line, header-line, unit-lines, node-lines, switch-lines, plan-text}
+use Rattle.lines.specs.Text.{joined, head-line, header-line, unit-lines, node-lines, switch-lines, plan-text}
 use Rattle.numerals.specs.Wrote.{Wrote}
 use Rattle.numerals.proofs.WroteLaws.{wrote-nothing, wrote-then, within}
 

@@ -1,11 +1,11 @@
--- `text::lines::head_line` meets its contract: its fields one after the other are the header's line. Assumes nothing.
+-- `lines::head_line` meets its contract: its fields one after the other are the header's line. Assumes nothing.
 use mathlib.Core.Path.{refl}
 use lib.ListN.{length}
 use borrow.Author.Tests.{leb-true}
-use Rattle.text.specs.Text.{head-line}
+use Rattle.lines.specs.Text.{head-line}
 use Rattle.numerals.proofs.WroteLaws.{Inside, Room, byte-inside, byte-room, field-room, room-left, two-inside, within, wrote-length, wrote-then}
-use Rattle.text.proofs.lines.head_line.Statement.{statement}
-use Rattle.text.proofs.lines.head_line.Tie as tie
+use Rattle.lines.proofs.head_line.Statement.{statement}
+use Rattle.lines.proofs.head_line.Tie as tie
 
 start-room : (c : tie.Start) → Room (c .args .to) 128
 start-room c = record { fits = c .pre .1 }

@@ -69,6 +69,10 @@ node-lines p i = node-line i (node-in p i)
 abbrev pub switch-lines : Plan → ℕ → List ℕ
 switch-lines p i = switch-line i (switch-in p i)
 
+-- no line of a plan is longer
+abbrev pub line-most : ℕ
+line-most = 128
+
 -- the whole print of a plan
 unfoldable pub plan-text : Plan → List ℕ
 plan-text p =
