@@ -1,0 +1,3 @@
+-- Laws of what is printed for the planner's answer.
+pub mod LoopLaws
+pub mod PrintLaws
