@@ -1,19 +1,16 @@
 // Runs plans as standard input says, and prints what the calls answer and leave. Input and print are written by tests/runs.py, the
 // print from the unfolded graph. The input is hexadecimal digits, a command a line; all other characters, capitals too, are skipped.
 // Assumes nothing.
-mod reading;
-mod showing;
-
-use reading::byte;
-use reading::decode;
-use reading::pair;
-use reading::part;
-use reading::place;
-use reading::within;
-use reading::word;
-use showing::print;
-use showing::print_number;
-use showing::print_words;
+use scripts::reading::byte;
+use scripts::reading::decode;
+use scripts::reading::pair;
+use scripts::reading::part;
+use scripts::reading::place;
+use scripts::reading::within;
+use scripts::reading::word;
+use scripts::showing::print;
+use scripts::showing::print_number;
+use scripts::showing::print_words;
 
 // How far the words of neighbouring channels stand apart.
 const APART: u32 = 0x9e37_79b9;

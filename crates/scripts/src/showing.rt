@@ -1,4 +1,4 @@
-// What the program prints: text, numbers, and words as eight hexadecimal digits.
+// What the programs print: text, numbers, and words as eight hexadecimal digits.
 use libc::STDOUT_FILENO;
 
 pub fn print(text: &[u8]) {

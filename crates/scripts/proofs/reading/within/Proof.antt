@@ -1,8 +1,8 @@
 -- `runs::reading::within` meets its contract: the lesser of two numbers. Assumes nothing.
 use Rattle.io.proofs.Counting.{counts}
 use borrow.Author.Needs.{needs}
-use Rattle.runs.proofs.reading.within.Statement.{statement}
-use Rattle.runs.proofs.reading.within.Tie as tie
+use Rattle.scripts.proofs.reading.within.Statement.{statement}
+use Rattle.scripts.proofs.reading.within.Tie as tie
 
 lesser-requires : tie.Need-lesser-requires
 lesser-requires c κs = search needs

@@ -5,8 +5,8 @@ use mathlib.Core.Logic.{⊎-elim}
 use native.Mathlib.Omega.{arith}
 use lib.ListN.{length}
 use borrow.Author.Needs.{needs}
-use Rattle.runs.proofs.reading.decode.Statement.{statement}
-use Rattle.runs.proofs.reading.decode.Tie as tie
+use Rattle.scripts.proofs.reading.decode.Statement.{statement}
+use Rattle.scripts.proofs.reading.decode.Tie as tie
 
 abbrev Inv-loop : tie.InvT-loop
 Inv-loop text bytes₀ digits₀ i₀ bytes digits i = (length bytes ≡ length bytes₀) × (digits ≤ i) × (i ≤ length text)

@@ -1,0 +1,3 @@
+// Scripts for the programs of the gate: commands written as hexadecimal digits, read where they stand, and what the programs print.
+pub mod reading;
+pub mod showing;
