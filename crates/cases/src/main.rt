@@ -51,13 +51,17 @@ fn record_length(letter: u8) -> usize {
     Plan::LOOP
 }
 
+fn print_byte(b: u8) {
+    print_number(b as u64);
+}
+
 // A record: its mark, and the bytes behind it.
 fn show_record(record: &[u8]) {
     print(b"  ");
     print(part(record, 0, 2));
     let mut i = 2;
     while i < record.len() {
-        print_number(record[i] as u64);
+        print_byte(record[i]);
         i += 1;
     }
     print(b"\n");
@@ -120,15 +124,24 @@ fn lesser(a: usize, b: usize) -> usize
     if a <= b { a } else { b }
 }
 
+// The first n bytes, or all.
+fn front(buffer: &mut [u8], n: usize) -> &mut [u8] {
+    let e = lesser(n, buffer.len());
+    &mut buffer[..e]
+}
+
+fn plan_into(sheet: &[u8], buffer: &mut [u8]) {
+    let answer = planner::plan(sheet, buffer);
+    show_planned(answer, buffer);
+}
+
 // 2: the room in two bytes, the sheet's length in two, and the sheet.
 fn plan(job: &[u8], s: State) -> State {
     let room = pair(job, s.at);
     let n = pair(job, place(s.at, 2));
     let at = place(s.at, 4);
     let mut buffer = [BEFORE; 2048];
-    let lent = lesser(room, buffer.len());
-    let answer = planner::plan(part(job, at, n), &mut buffer[..lent]);
-    show_planned(answer, &buffer[..lent]);
+    plan_into(part(job, at, n), front(&mut buffer[..], room));
     State {
         at: place(at, n),
         sheet: at,

@@ -1,72 +1,54 @@
+-- `cases::show_record` meets its contract: no more turns than bytes. Assumes nothing.
+use Prim.Native.Nat.{_≤_, _-_}
+use lib.ListN.{length}
+use borrow.Author.Needs.{needs}
 use Rattle.cases.proofs.show_record.Statement.{statement}
 use Rattle.cases.proofs.show_record.Tie as tie
-use Rattle.cases.proofs.show_record.Reads as reads
-use Rattle.cases.proofs.show_record.Lts as lts
-use Rattle.scripts.proofs.reading.part.Reads as part-reads
-use Rattle.scripts.proofs.showing.print.Reads as print-reads
-use Rattle.scripts.proofs.showing.print_number.Reads as print-number-reads
 
 abbrev Inv-loop : tie.InvT-loop
-Inv-loop «record» i₀ t4 i = ?
+Inv-loop «record» i₀ t4 i = 0 ≤ i
 
 abbrev μ-loop : tie.MeasureT-loop
-μ-loop «record» i₀ t4 i = ?
+μ-loop «record» i₀ t4 i = length «record» - i
 
--- src/main.rt:56:11
 slice-aggregate-print : tie.Need-slice-aggregate-print Inv-loop μ-loop
-slice-aggregate-print c = ?
+slice-aggregate-print c = search needs
 
--- src/main.rt:56:5
 print-requires : tie.Need-print-requires Inv-loop μ-loop
-print-requires c κs = ?
+print-requires c κs = search needs
 
--- src/main.rt:57:11
 part-requires : tie.Need-part-requires Inv-loop μ-loop
-part-requires c κs = ?
+part-requires c κs = search needs
 
--- src/main.rt:57:5
 print-requires-2 : tie.Need-print-requires-2 Inv-loop μ-loop
-print-requires-2 c κs = ?
+print-requires-2 c κs = search needs
 
--- src/main.rt:59:5
 loop-holds : tie.Need-loop-holds Inv-loop μ-loop
-loop-holds c = ?
+loop-holds c = search needs
 
--- src/main.rt:60:22
-shared-slice-read-print-number : tie.Need-shared-slice-read-print-number Inv-loop μ-loop
-shared-slice-read-print-number c = ?
+shared-slice-read-print-byte : tie.Need-shared-slice-read-print-byte Inv-loop μ-loop
+shared-slice-read-print-byte c = search needs
 
--- src/main.rt:60:22
-cast-print-number : tie.Need-cast-print-number Inv-loop μ-loop
-cast-print-number c = ?
+print-byte-requires : tie.Need-print-byte-requires Inv-loop μ-loop
+print-byte-requires c κs = search needs
 
--- src/main.rt:60:9
-print-number-requires : tie.Need-print-number-requires Inv-loop μ-loop
-print-number-requires c κs = ?
-
--- src/main.rt:61:9
 add-i : tie.Need-add-i Inv-loop μ-loop
-add-i c = ?
+add-i c = search needs
 
--- src/main.rt:59:5
 loop-less : tie.Need-loop-less Inv-loop μ-loop
-loop-less c = ?
+loop-less c = search needs
 
--- src/main.rt:59:5
 loop-again : tie.Need-loop-again Inv-loop μ-loop
-loop-again c = ?
+loop-again c = search needs
 
--- src/main.rt:63:11
 slice-aggregate-print-2 : tie.Need-slice-aggregate-print-2 Inv-loop μ-loop
-slice-aggregate-print-2 c = ?
+slice-aggregate-print-2 c = search needs
 
--- src/main.rt:63:5
 print-requires-3 : tie.Need-print-requires-3 Inv-loop μ-loop
-print-requires-3 c κs = ?
+print-requires-3 c κs = search needs
 
--- src/main.rt:55:1
 returns : tie.Need-returns Inv-loop μ-loop
-returns c = ?
+returns c = search needs
 
 pub show-record-spec : {M : Type 1} → statement M
 show-record-spec =
@@ -79,9 +61,8 @@ show-record-spec =
     part-requires
     print-requires-2
     loop-holds
-    shared-slice-read-print-number
-    cast-print-number
-    print-number-requires
+    shared-slice-read-print-byte
+    print-byte-requires
     add-i
     loop-less
     loop-again

@@ -1,4 +1,4 @@
--- `runs::reading::decode` meets its contract: there are no more digits than characters. Assumes nothing.
+-- `scripts::reading::decode` meets its contract: there are no more digits than characters. Assumes nothing.
 use Prim.Native.Nat.{_≤_, _-_}
 use mathlib.Core.Path.{_≡_}
 use mathlib.Core.Logic.{⊎-elim}

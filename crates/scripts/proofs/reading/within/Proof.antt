@@ -1,4 +1,4 @@
--- `runs::reading::within` meets its contract: the lesser of two numbers. Assumes nothing.
+-- `scripts::reading::within` meets its contract: the lesser of two numbers. Assumes nothing.
 use Rattle.io.proofs.Counting.{counts}
 use borrow.Author.Needs.{needs}
 use Rattle.scripts.proofs.reading.within.Statement.{statement}

@@ -1,4 +1,4 @@
--- `runs::showing::print_words` meets its contract. Assumes nothing.
+-- `scripts::showing::print_words` meets its contract. Assumes nothing.
 use Prim.Native.Nat.{_≤_, _-_}
 use lib.ListN.{length}
 use borrow.Author.Needs.{needs}
