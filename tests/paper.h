@@ -94,7 +94,8 @@ size_t memory_of(const struct plan *plan);
 /* An op's value. */
 uint32_t op_value(int op, int k, const uint32_t *inputs, const uint32_t *channels);
 
-/* The listing of a sheet's bytes; out holds MAX_TEXT. */
+/* The listing of a sheet's bytes, or of a planner's answer; out holds MAX_TEXT. */
 size_t paper_listing(const uint8_t *sheet, size_t sheet_len, char *out);
+size_t plan_listing(uint32_t number, const uint8_t *written, size_t length, char *out);
 
 #endif

@@ -24,26 +24,28 @@ static size_t list_plan(const struct plan *p, char *out)
     return (size_t)(at - out);
 }
 
-size_t paper_listing(const uint8_t *bytes, size_t length, char *out)
+/* The listing from a planner's answer: its number and the bytes that it wrote. */
+size_t plan_listing(uint32_t number, const uint8_t *written, size_t length, char *out)
 {
-    static struct sheet s;
-    static struct folded f;
     static struct plan p;
-    int refusal = read_sheet(bytes, length, &s);
-    if (refusal == 0) {
-        refusal = fold_sheet(&s, &f);
-    }
-    if (refusal == 0) {
-        plan_of(&s, &f, &p);
+    if (number == 0 && read_plan(written, length, &p) == 0) {
         return list_plan(&p, out);
     }
-    size_t at = (size_t)sprintf(out, "refused %d", refusal);
-    if (refusal == 6) {
+    size_t at = (size_t)sprintf(out, "refused %u", number);
+    if (number == 6) {
         at += (size_t)sprintf(out + at, " wires");
-        for (int i = 0; i < f.loop_wires; i++) {
-            at += (size_t)sprintf(out + at, " %d", f.loop[i]);
+        for (size_t i = 0; i + 3 <= length; i += 3) {
+            at += (size_t)sprintf(out + at, " %u", written[i + 2]);
         }
     }
     out[at++] = '\n';
     return at;
+}
+
+size_t paper_listing(const uint8_t *bytes, size_t length, char *out)
+{
+    uint8_t plan[MAX_PLAN];
+    uint64_t written = 0;
+    uint32_t number = paper_plan(bytes, length, plan, sizeof plan, &written);
+    return plan_listing(number, plan, (size_t)written, out);
 }
