@@ -1,8 +1,8 @@
 /* Gongperch: a folding planner and its cycle machine.
 
    A folding sheet (bytes) is planned into a plan (bytes), and a plan is run cycle by cycle in memory that the caller lends.
-   Link libgongperch.a, which `rt staticlib gongperch` writes to target/staticlib. The library allocates nothing, keeps nothing
-   between calls, calls nothing else and never stops the program; any bytes and any words may be passed.
+   Link libgongperch.a, which `rt staticlib gongperch` writes to target/staticlib; beside it only memcpy and memset are needed. The
+   library allocates nothing, keeps nothing between calls and never stops the program; any bytes and any words may be passed.
 
    What each call asks of its caller, and what the library cannot see for itself:
    - No pointer is null, also where its length is 0: pass the address of anything aligned.
