@@ -59,7 +59,7 @@ static uint32_t judge_units(struct view *v, const uint8_t *kinds, const struct f
 static uint32_t judge_plan(const uint8_t *p, size_t len, struct view *v)
 {
     uint8_t kinds[UNITS];
-    struct feeds f = {0};
+    struct feeds f;
     if (len < 9) {
         return 1;
     }
@@ -69,12 +69,14 @@ static uint32_t judge_plan(const uint8_t *p, size_t len, struct view *v)
     if (!counts_fit(p) || p[8] > 47) {
         return 3;
     }
-    *v = (struct view){.fold = p[2], .units = p[3], .nodes = p[4], .switches = p[5], .unit = p + 9};
+    v->fold = p[2], v->units = p[3], v->nodes = p[4], v->switches = p[5];
+    v->unit = p + 9;
     v->node = v->unit + 7 * v->units;
     v->switching = v->node + 9 * v->nodes;
     if (len != 9 + 7 * (size_t)v->units + 9 * (size_t)v->nodes + 8 * (size_t)v->switches) {
         return 1;
     }
+    v->slots.clash = v->slots.channels = f.twice = 0;
     for (unsigned u = 0; u < v->units; u++) {
         const uint8_t *at = v->unit + 7 * u;
         if (!marked(at, "PU")) {
@@ -84,6 +86,7 @@ static uint32_t judge_plan(const uint8_t *p, size_t len, struct view *v)
             return 3;
         }
         kinds[u] = at[2];
+        v->slots.occupied[u] = f.fed[u][0] = f.fed[u][1] = f.longest[u] = 0;
     }
     for (unsigned n = 0; n < v->nodes; n++) {
         const uint8_t *at = v->node + 9 * n;
@@ -137,12 +140,13 @@ static uint32_t value(const uint8_t *node, const uint32_t *inputs, const uint32_
 static void cycle(const struct view *v, uint32_t *memory, const uint32_t *channels, uint32_t *out)
 {
     uint32_t t = memory[0], slot = t % v->fold, iteration = t / v->fold;
-    uint32_t *leaving[UNITS], inputs[UNITS][2] = {{0}}, results[UNITS] = {0};
+    uint32_t *leaving[UNITS], inputs[UNITS][2], results[UNITS];
     uint32_t *places = memory + 1;
     for (unsigned u = 0; u < v->units; u++) {
         const uint8_t *at = v->unit + 7 * u;
         leaving[u] = places + at[3] - 1;
         out[u] = *leaving[u];
+        results[u] = 0;
         places += at[3] + two(at + 4);
     }
     for (unsigned i = 0; i < v->switches; i++) {

@@ -47,12 +47,14 @@ static uint32_t judge_sheet(const uint8_t *s, size_t len, struct view *v)
     if (!counts_fit(s)) {
         return 3;
     }
-    *v = (struct view){.fold = s[2], .units = s[3], .nodes = s[4], .wires = s[5], .unit = s + 6};
+    v->fold = s[2], v->units = s[3], v->nodes = s[4], v->wires = s[5];
+    v->unit = s + 6;
     v->node = v->unit + 4 * v->units;
     v->wire = v->node + 7 * v->nodes;
     if (len != 6 + 4 * (size_t)v->units + 7 * (size_t)v->nodes + 6 * (size_t)v->wires) {
         return 1;
     }
+    v->slots.clash = v->slots.channels = 0;
     for (unsigned u = 0; u < v->units; u++) {
         const uint8_t *at = v->unit + 4 * u;
         if (!marked(at, "FU")) {
@@ -62,6 +64,7 @@ static uint32_t judge_sheet(const uint8_t *s, size_t len, struct view *v)
             return 3;
         }
         kinds[u] = at[2];
+        v->slots.occupied[u] = 0;
     }
     for (unsigned n = 0; n < v->nodes; n++) {
         const uint8_t *at = v->node + 7 * n;
@@ -169,7 +172,8 @@ static unsigned find_loop(const struct view *v, const struct work *w, uint8_t *l
 
 static unsigned registers(const struct view *v, const uint16_t *longest)
 {
-    unsigned live[FOLD] = {0}, all = 0, most = 0;
+    unsigned live[FOLD], all = 0, most = 0;
+    memset(live, 0, sizeof *live * v->fold);
     for (unsigned n = 0; n < v->nodes; n++) {
         const uint8_t *node = v->node + 7 * n;
         unsigned slot = (node[3] + v->unit[4 * node[2] + 3] + 1u) % v->fold;
@@ -200,9 +204,11 @@ static uint8_t *write_switches(const struct view *v, const struct work *w, uint8
 
 static void write_plan(const struct view *v, const struct work *w, uint8_t *plan)
 {
-    uint16_t longest[NODES] = {0}, lines[UNITS] = {0};
+    uint16_t longest[NODES], lines[UNITS];
     int smallest = 0;
     uint8_t *unit = plan + 9, *node = unit + 7 * v->units;
+    memset(longest, 0, 2 * v->nodes);
+    memset(lines, 0, 2 * v->units);
     write_switches(v, w, node + 9 * v->nodes, longest, lines);
     for (unsigned n = 0; n < v->nodes; n++) {
         smallest = w->least[n] < smallest ? w->least[n] : smallest;
