@@ -35,7 +35,11 @@ void begin_input(const uint8_t *bytes, size_t length)
 
 static void report(void)
 {
-    printf("  seed %" PRIu64 " case %" PRIu64 " (%s), input of %zu bytes:\n  ", now.seed, now.number, now.sort, now.length);
+    printf("  %s, ", now.sort);
+    if (now.number != UINT64_MAX) {
+        printf("seed %" PRIu64 " case %" PRIu64 ", ", now.seed, now.number);
+    }
+    printf("input of %zu bytes:\n  ", now.length);
     for (size_t i = 0; i < now.length; i++) {
         printf("%02x", now.bytes[i]);
     }

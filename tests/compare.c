@@ -93,11 +93,9 @@ int main(int argc, char **argv)
     checks_begin();
     begin_case(seed, UINT64_MAX, "worked by hand");
     check_worked(&c);
-    for (uint64_t i = only == UINT64_MAX ? 0 : only; i < cases && seen.differences < 10; i++) {
+    uint64_t first = only == UINT64_MAX ? 0 : only, end = only == UINT64_MAX ? cases : only + 1;
+    for (uint64_t i = first; i < end && seen.differences < 10; i++) {
         run_case(seed, i);
-        if (only != UINT64_MAX) {
-            break;
-        }
     }
     seen.differences += only == UINT64_MAX && seen.differences == 0 && print_seen(cases) ? 1 : 0;
     uint64_t failed = seen.differences < seen.cases ? seen.differences : seen.cases;
