@@ -140,6 +140,12 @@ static void biquad(void)
     expect_taps("biquad, waits", (int[]){1, 0, 2, 3, 5, 0, 0, 0, 0, 1, 1, 0});
     expect("biquad, registers", planned.registers, 2);
     expect("biquad, chain", planned.chain, 3);
+    static const int live[4] = {2, 2, 2, 1};
+    struct folded f;
+    fold_sheet(&s, &f);
+    for (int slot = 0; slot < 4; slot++) {
+        expect("biquad, live counts of the tests' own folding", f.live[slot], live[slot]);
+    }
 }
 
 /* 96 wires passed, 97 refused 3; depth 16 and 17; delays 63 and 64. */
