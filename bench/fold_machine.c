@@ -56,10 +56,8 @@ static uint32_t judge_units(struct view *v, const uint8_t *kinds, const struct f
     return unfed ? 5 : wrong ? 9 : 0;
 }
 
-static uint32_t judge_plan(const uint8_t *p, size_t len, struct view *v)
+static uint32_t judge_header(const uint8_t *p, size_t len, struct view *v)
 {
-    uint8_t kinds[UNITS];
-    struct feeds f;
     if (len < 9) {
         return 1;
     }
@@ -73,8 +71,16 @@ static uint32_t judge_plan(const uint8_t *p, size_t len, struct view *v)
     v->unit = p + 9;
     v->node = v->unit + 7 * v->units;
     v->switching = v->node + 9 * v->nodes;
-    if (len != 9 + 7 * (size_t)v->units + 9 * (size_t)v->nodes + 8 * (size_t)v->switches) {
-        return 1;
+    return len != 9 + 7 * (size_t)v->units + 9 * (size_t)v->nodes + 8 * (size_t)v->switches;
+}
+
+static uint32_t judge_plan(const uint8_t *p, size_t len, struct view *v)
+{
+    uint8_t kinds[UNITS];
+    struct feeds f;
+    uint32_t refusal = judge_header(p, len, v);
+    if (refusal) {
+        return refusal;
     }
     v->slots.clash = v->slots.channels = f.twice = 0;
     for (unsigned u = 0; u < v->units; u++) {
@@ -97,7 +103,7 @@ static uint32_t judge_plan(const uint8_t *p, size_t len, struct view *v)
             return 3;
         }
     }
-    uint32_t refusal = judge_switches(v, kinds, &f);
+    refusal = judge_switches(v, kinds, &f);
     return refusal ? refusal : judge_units(v, kinds, &f);
 }
 

@@ -35,9 +35,8 @@ static uint32_t judge_wires(const struct view *v)
     return twice || fed[0] != need[0] || fed[1] != need[1] ? 5 : 0;
 }
 
-static uint32_t judge_sheet(const uint8_t *s, size_t len, struct view *v)
+static uint32_t judge_header(const uint8_t *s, size_t len, struct view *v)
 {
-    uint8_t kinds[UNITS];
     if (len < 6) {
         return 1;
     }
@@ -51,8 +50,15 @@ static uint32_t judge_sheet(const uint8_t *s, size_t len, struct view *v)
     v->unit = s + 6;
     v->node = v->unit + 4 * v->units;
     v->wire = v->node + 7 * v->nodes;
-    if (len != 6 + 4 * (size_t)v->units + 7 * (size_t)v->nodes + 6 * (size_t)v->wires) {
-        return 1;
+    return len != 6 + 4 * (size_t)v->units + 7 * (size_t)v->nodes + 6 * (size_t)v->wires;
+}
+
+static uint32_t judge_sheet(const uint8_t *s, size_t len, struct view *v)
+{
+    uint8_t kinds[UNITS];
+    uint32_t refusal = judge_header(s, len, v);
+    if (refusal) {
+        return refusal;
     }
     v->slots.clash = v->slots.channels = 0;
     for (unsigned u = 0; u < v->units; u++) {
