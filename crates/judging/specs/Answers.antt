@@ -13,6 +13,7 @@ use Rattle.words.specs.Masks.{in-mask}
 use Rattle.records.specs.declared.reading.HeaderRead.{HeaderRead}
 use Rattle.records.specs.declared.reading.HeaderRead.the-variants as H
 use Rattle.slots.specs.declared.feeding.Input.{Input}
+use Rattle.slots.specs.Feeding.{FedOf}
 use Rattle.records.specs.Records.{at, nodes-in, wires-in, counts-fit, wire-place, record-fault, node-fits, clashes, runs-in, occupied, fed-once}
 use Rattle.records.specs.Answers.{reason-number, answer, header-fault}
 use Rattle.plans.specs.declared.Plan.{Plan as Header}
@@ -22,6 +23,7 @@ use Rattle.plans.specs.Heads.{plan-head, joint-at, Whole}
 use Rattle.plans.specs.Judging.{most-chain, switch-fits, plan-feeds, longest-tap, idle-slots, figures-right, plan-fault}
 use Rattle.judging.specs.declared.PlanRead.{PlanRead}
 use Rattle.judging.specs.declared.PlanRead.the-variants as P
+use Rattle.judging.specs.declared.switches.Joined.{Joined}
 use Rattle.judging.specs.declared.switches.SwitchRead.{SwitchRead}
 use Rattle.judging.specs.declared.switches.SwitchRead.the-variants as S
 
@@ -114,6 +116,11 @@ no-cycles = record { 0 = pos 0 }
 
 abbrev pub TapsOf : Plan → ℕ → List Cycles → Type 0
 TapsOf p n l = (q : ℕ) → q < 8 → getD l q no-cycles .0 ≡ pos (longest-tap n (switch-in p) q)
+
+-- what the first n switches join: the inputs that they feed, and the largest taps
+pub record JoinedBy (p : Plan) (n : ℕ) (r : Joined) : Type 0 where
+  pub fed-so : FedOf n (input-of p) (r .fed)
+  pub taps-so : TapsOf p n (r .taps)
 
 -- the largest tap that reads unit q, and a mask with a one for each of its occupied slots
 pub record UnitFigures (p : Plan) (q : ℕ) (tap : ℤ) (mask : ℕ) : Type 0 where

@@ -6,7 +6,7 @@ ghost use Rattle.slots.specs.Slots.{SlotsOf};
 ghost use Rattle.plans.specs.Plan.{node-in, plan-format, plan-read};
 ghost use Rattle.judging.specs.Answers.{plan-got, header-answer, plan-answer, switches-fault, fed-fault, figures-fault, nodes-fault, HeaderSaid, Fronted, Held, Occupied};
 use crate::figures::figures_right;
-use crate::switches::fed_of;
+use crate::switches::joined_by;
 use crate::switches::judge_switches;
 use plans::Plan;
 use records::reading::HeaderRead;
@@ -84,7 +84,8 @@ fn judge_inputs(b: &[u8], p: Plan, occupied: [u32; 8]) -> Judged
     requires { ⌜ Occupied (plan-read (now b)) occupied ⌝ }
     ensures { λ r. ⌜ r ≡ judged (fed-fault (plan-read (now (b .entry))) then figures-fault (plan-read (now (b .entry)))) ⌝ }
 {
-    let fed = fed_of(b, p);
+    let joined = joined_by(b, p);
+    let fed = joined.fed;
     if fed.twice {
         return Judged::Refused(Reason::Unfed);
     }
@@ -92,7 +93,8 @@ fn judge_inputs(b: &[u8], p: Plan, occupied: [u32; 8]) -> Judged
     if !units_fed(b, p.unit_run(), occupied, masks) {
         return Judged::Refused(Reason::Unfed);
     }
-    if !figures_right(b, p, &occupied[..]) {
+    let taps = joined.taps;
+    if !figures_right(b, p, taps, &occupied[..]) {
         return Judged::Refused(Reason::Figures);
     }
     Judged::Passed

@@ -1,14 +1,16 @@
-// The switches of a plan: read in file order, each with an input of its unit in an occupied slot, and the inputs that they feed.
+// The switches of a plan: read in file order, each with an input of its unit in an occupied slot; the inputs that they feed, and the
+// largest taps.
 ghost use mathlib.Core.Path.{_≡_};
 ghost use Prim.Native.Nat.{_<_};
+ghost use lib.IntN.{pos};
 ghost use Rattle.records.specs.Answers.{judged};
-ghost use Rattle.slots.specs.Feeding.{FedOf};
-ghost use Rattle.plans.specs.Plan.{plan-read};
+ghost use Rattle.plans.specs.Plan.{switch-in, plan-read};
 ghost use Rattle.plans.specs.Judging.{switch-fits};
-ghost use Rattle.judging.specs.Answers.{as-switch, switch-number, switch-answer, switches-fault, Fronted, Held, Occupied, input-of};
+ghost use Rattle.judging.specs.Answers.{as-switch, switch-number, switch-answer, switches-fault, Fronted, Held, Occupied, input-of, JoinedBy};
 use plans::Joint;
 use plans::Plan;
 use plans::joint_at;
+use plans::tap_at;
 use records::Unit;
 use records::reading::Judged;
 use records::reading::Reason;
@@ -17,6 +19,7 @@ use records::reading::unit_in;
 use slots::feeding::Fed;
 use slots::feeding::Input;
 use words::masks;
+use words::time::Cycles;
 
 pub enum SwitchRead {
     Got(Joint),
@@ -100,21 +103,50 @@ fn input_of(b: &[u8], p: Plan, e: usize) -> Input
     }
 }
 
-// The masks of the inputs that the switches feed.
-pub fn fed_of(b: &[u8], p: Plan) -> Fed
+// The unit that switch e reads.
+fn source_of(b: &[u8], p: Plan, e: usize) -> usize
     requires { ⌜ Held (now b) p ⌝ }
-    ensures { λ r. ⌜ FedOf (p .wires) (input-of (plan-read (now (b .entry)))) r ⌝ }
+    requires { ⌜ e < p .wires ⌝ }
+    ensures { λ r. ⌜ (r ≡ switch-in (plan-read (now (b .entry))) e .source) × (r < 8) ⌝ }
+{
+    joint_at(b, p.switch_place(e)).source as usize
+}
+
+// The tap of switch e.
+fn tap_of(b: &[u8], p: Plan, e: usize) -> Cycles
+    requires { ⌜ Held (now b) p ⌝ }
+    requires { ⌜ e < p .wires ⌝ }
+    ensures { λ r. ⌜ r .0 ≡ pos (switch-in (plan-read (now (b .entry))) e .tap) ⌝ }
+{
+    tap_at(b, p.switch_place(e))
+}
+
+// The masks of the inputs that the switches feed, and the largest tap that reads each unit.
+pub struct Joined {
+    pub fed: Fed,
+    pub taps: [Cycles; 8],
+}
+
+// What the switches join, in one pass over them.
+pub fn joined_by(b: &[u8], p: Plan) -> Joined
+    requires { ⌜ Held (now b) p ⌝ }
+    ensures { λ r. ⌜ JoinedBy (plan-read (now (b .entry))) (p .wires) r ⌝ }
 {
     let count = p.wires as usize;
     let mut twice = false;
     let mut fed = [0u32; 16];
+    let mut taps = [Cycles::zero(); 8];
     let mut e = 0;
     while e < count {
         let to = input_of(b, p, e);
         let m = to.mask();
         twice = twice | masks::has_slot(fed[m], to.slot);
         fed[m] = masks::with_slot(fed[m], to.slot);
+        let q = source_of(b, p, e);
+        let longest = taps[q];
+        taps[q] = longest.larger(tap_of(b, p, e));
         e += 1;
     }
-    Fed { twice, masks: fed }
+    let fed = Fed { twice, masks: fed };
+    Joined { fed, taps }
 }
