@@ -1,4 +1,5 @@
 -- Laws.
+pub mod AnswerLaws
 pub mod HeadLaws
 pub mod PartLaws
 pub mod RunLaws

@@ -1,0 +1,3 @@
+-- Laws of loops and of the calls' answers.
+pub mod LoopLaws
+pub mod TextingLaws
