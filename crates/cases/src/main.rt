@@ -1,11 +1,10 @@
 // 01's run cases through the planner, as standard input says: for each sheet the answer, what stands in the buffer and whether its
 // rest was kept, and the live counts of its slots. Input and print are written by tests/cases.py. Assumes nothing.
-ghost use Prim.Native.Nat.{_≤_};
-ghost use lib.ListN.{length};
 use planner::Planned;
 use plans::Plan;
 use scripts::reading::byte;
 use scripts::reading::decode;
+use scripts::reading::front;
 use scripts::reading::pair;
 use scripts::reading::part;
 use scripts::reading::place;
@@ -93,41 +92,26 @@ fn kept(bytes: &[u8]) -> bool {
     same
 }
 
-// The answer's number, its length, and how many bytes were written.
-fn show_answer(number: u64, length: usize, buffer: &[u8], written: usize) {
+// How many of the buffer's bytes were written.
+fn written(answer: Planned) -> usize {
+    match answer {
+        Planned::Done(n) => n,
+        Planned::Unfoldable(n) => n,
+        _ => 0,
+    }
+}
+
+// The answer's number, its length, and the records that were written.
+fn show_planned(answer: Planned, buffer: &[u8]) {
+    let n = written(answer);
     print(b"plan");
-    print_number(number);
-    print_number(length as u64);
-    if kept(part(buffer, written, buffer.len())) {
+    print_number(answer.number() as u64);
+    print_number(answer.length());
+    if kept(part(buffer, n, buffer.len())) {
         print(b", the rest kept");
     }
     print(b"\n");
-    show_records(part(buffer, 0, written));
-}
-
-fn show_planned(answer: Planned, buffer: &[u8]) {
-    match answer {
-        Planned::Done(n) => show_answer(0, n, buffer, n),
-        Planned::Length => show_answer(1, 0, buffer, 0),
-        Planned::Mark => show_answer(2, 0, buffer, 0),
-        Planned::Range => show_answer(3, 0, buffer, 0),
-        Planned::Clash => show_answer(4, 0, buffer, 0),
-        Planned::Unfed => show_answer(5, 0, buffer, 0),
-        Planned::Unfoldable(n) => show_answer(6, n, buffer, n),
-        Planned::Short(n) => show_answer(7, n, buffer, 0),
-    }
-}
-
-fn lesser(a: usize, b: usize) -> usize
-    ensures { λ r. ⌜ r ≤ b ⌝ }
-{
-    if a <= b { a } else { b }
-}
-
-// The first n bytes, or all.
-fn front(buffer: &mut [u8], n: usize) -> &mut [u8] {
-    let e = lesser(n, buffer.len());
-    &mut buffer[..e]
+    show_records(part(buffer, 0, n));
 }
 
 fn plan_into(sheet: &[u8], buffer: &mut [u8]) {

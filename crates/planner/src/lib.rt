@@ -51,6 +51,40 @@ pub enum Planned {
     Short(usize),
 }
 
+impl Planned {
+    // 01's number.
+    pub fn number(self) -> u32
+        ensures { λ r. ⌜ r ≡ planned-number self ⌝ }
+    {
+        match self {
+            Self::Done(_) => 0,
+            Self::Length => 1,
+            Self::Mark => 2,
+            Self::Range => 3,
+            Self::Clash => 4,
+            Self::Unfed => 5,
+            Self::Unfoldable(_) => 6,
+            Self::Short(_) => 7,
+        }
+    }
+
+    // 01's length.
+    pub fn length(self) -> u64
+        ensures { λ r. ⌜ r ≡ planned-length self ⌝ }
+    {
+        match self {
+            Self::Done(n) => n as u64,
+            Self::Length => 0,
+            Self::Mark => 0,
+            Self::Range => 0,
+            Self::Clash => 0,
+            Self::Unfed => 0,
+            Self::Unfoldable(n) => n as u64,
+            Self::Short(n) => n as u64,
+        }
+    }
+}
+
 // A sheet's fault; it is never one of a plan's figures.
 fn refused(why: Reason) -> Planned
     requires { ⌜ reason-number why ≤ 5 ⌝ }

@@ -1,6 +1,8 @@
 // Runs plans as standard input says, and prints what the calls answer and leave. Input and print are written by tests/runs.py, the
 // print from the unfolded graph. The input is hexadecimal digits, a command a line; all other characters, capitals too, are skipped.
 // Assumes nothing.
+use scripts::filling::fill;
+use scripts::filling::store;
 use scripts::reading::byte;
 use scripts::reading::decode;
 use scripts::reading::pair;
@@ -75,29 +77,12 @@ fn lend(job: &[u8], s: State) -> State {
     }
 }
 
-// Words that stand equally far apart.
-fn fill(words: &mut [u32], first: u32, apart: u32) {
-    let mut next = first;
-    let mut i = 0;
-    while i < words.len() {
-        words[i] = next;
-        next = std::num::wrapping_add_u32(next, apart);
-        i += 1;
-    }
-}
-
 // 4: a word, whose multiples fill memory and output.
 fn strew(job: &[u8], s: State, memory: &mut [u32], out: &mut [u32]) -> State {
     let x = word(job, s.at);
     fill(memory, x, x);
     fill(out, x, x);
     skip(s, 4)
-}
-
-fn store(words: &mut [u32], i: usize, x: u32) {
-    if i < words.len() {
-        words[i] = x;
-    }
 }
 
 // 5: a place of the memory in two bytes, and its word.

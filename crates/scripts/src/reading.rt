@@ -71,3 +71,14 @@ pub fn part(job: &[u8], at: usize, n: usize) -> &[u8] {
     let e = a + lesser(n, job.len() - a);
     &job[a..e]
 }
+
+// The first n bytes or words of a lent slice, or all.
+pub fn front(bytes: &mut [u8], n: usize) -> &mut [u8] {
+    let e = lesser(n, bytes.len());
+    &mut bytes[..e]
+}
+
+pub fn front_words(words: &mut [u32], n: usize) -> &mut [u32] {
+    let e = lesser(n, words.len());
+    &mut words[..e]
+}

@@ -22,3 +22,16 @@ pub fn print_words(words: &[u32]) {
         i += 1;
     }
 }
+
+fn print_byte(b: u8) {
+    io::print_hex(STDOUT_FILENO, b as u64, 2);
+}
+
+// Bytes as two hexadecimal digits each.
+pub fn print_bytes(bytes: &[u8]) {
+    let mut i = 0;
+    while i < bytes.len() {
+        print_byte(bytes[i]);
+        i += 1;
+    }
+}

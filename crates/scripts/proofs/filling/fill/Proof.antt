@@ -1,10 +1,10 @@
--- `runs::fill` meets its contract: the slice keeps its length. Assumes nothing.
+-- `scripts::filling::fill` meets its contract: the slice keeps its length. Assumes nothing.
 use Prim.Native.Nat.{_-_}
 use mathlib.Core.Path.{_≡_}
 use lib.ListN.{length}
 use borrow.Author.Needs.{needs}
-use Rattle.runs.proofs.fill.Statement.{statement}
-use Rattle.runs.proofs.fill.Tie as tie
+use Rattle.scripts.proofs.filling.fill.Statement.{statement}
+use Rattle.scripts.proofs.filling.fill.Tie as tie
 
 abbrev Inv-loop : tie.InvT-loop
 Inv-loop words₀ first apart next₀ i₀ words next i = length words ≡ length words₀

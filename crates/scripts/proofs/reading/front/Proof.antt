@@ -1,9 +1,9 @@
--- `cases::front` meets its contract: the part is as long as its end says. Assumes nothing.
+-- `scripts::reading::front` meets its contract: the part is as long as its end says. Assumes nothing.
 use mathlib.Core.Path.{sym}
 use lib.Seq.{length-take-le}
 use borrow.Author.Needs.{needs}
-use Rattle.cases.proofs.front.Statement.{statement}
-use Rattle.cases.proofs.front.Tie as tie
+use Rattle.scripts.proofs.reading.front.Statement.{statement}
+use Rattle.scripts.proofs.reading.front.Tie as tie
 
 lesser-requires : tie.Need-lesser-requires
 lesser-requires c κs = search needs
