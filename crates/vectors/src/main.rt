@@ -100,6 +100,14 @@ fn clear(plan: &[u8], memory: &mut [u32]) {
     print(b"\n");
 }
 
+// All but `S` begin with a clear.
+fn begin(plan: &[u8], sort: u8, memory: &mut [u32]) {
+    if sort == b'S' {
+        return;
+    }
+    clear(plan, memory);
+}
+
 fn step(plan: &[u8], memory: &mut [u32], channels: &[u32], out: &mut [u32]) {
     let answer = machine::step(plan, memory, channels, out);
     print(b"step");
@@ -124,9 +132,7 @@ fn run(plan: &[u8], c: Case, memory: &mut [u32], channels: &mut [u32], out: &mut
     fill(memory, 0, APART);
     store(memory, 0, c.count);
     fill(out, OUTPUT, APART);
-    if c.sort != b'S' {
-        clear(plan, memory);
-    }
+    begin(plan, c.sort, memory);
     steps(plan, c.steps, memory, channels, out);
     print_memory(memory);
 }
