@@ -1,2 +1,3 @@
--- Laws of lines.
+-- Laws of lines, and 01's prints.
 pub mod LineLaws
+pub mod Printed

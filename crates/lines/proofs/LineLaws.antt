@@ -1,10 +1,9 @@
 -- Lines one after the other are all the lines. Assumes nothing.
-use mathlib.Core.Path.{_≡_, refl, sym, ap, _∙_}
+use mathlib.Core.Path.{_≡_, refl}
 use mathlib.Core.List.{List, _++_}
 use Prim.Native.Nat.{ℕ, suc, _+_, _*_, _≤_}
 use native.Mathlib.Omega.{arith}
 use native.Mathlib.Numerals.{add-one}
-use lib.ListN.{length}
 use Rattle.records.specs.Records.{at, two}
 use Rattle.plans.specs.declared.Plan as Head
 use Rattle.plans.specs.Plan.{plan-read}

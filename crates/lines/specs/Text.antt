@@ -1,6 +1,6 @@
 -- The text of a plan and of a refusal: 01, "Sheets worked by hand", its end. "Fields are the plan's, in plan order." Every line ends with a
 -- line feed. Assumes nothing.
-use mathlib.Core.List.{List, [], _∷_, _++_}
+use mathlib.Core.List.{List, [], _++_}
 use Prim.Native.Nat.{ℕ, zero, suc}
 use lib.ListN.{length}
 use Rattle.records.specs.Records.{at}

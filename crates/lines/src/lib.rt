@@ -1,5 +1,4 @@
 // The lines of a plan, each from the record that it shows, read where it stands.
-ghost use mathlib.Core.Path.{_≡_};
 ghost use Prim.Native.Nat.{_+_, _*_, _^_, _<_, _≤_};
 ghost use lib.ListN.{length};
 ghost use Rattle.records.specs.Records.{at, two};

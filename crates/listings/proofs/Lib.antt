@@ -1,2 +1,3 @@
 -- Laws.
 pub mod SaidLaws
+pub mod OneResult

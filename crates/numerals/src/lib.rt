@@ -1,6 +1,5 @@
 // Words and numbers laid into a lent buffer from a place on; each function answers the place behind what it laid. What lies beyond the
 // buffer's end is left out, so that the same code measures a text where there is no room for it.
-ghost use mathlib.Core.Path.{_≡_};
 ghost use mathlib.Core.List.{[], _∷_};
 ghost use Prim.Native.Nat.{_+_, _^_, _<_, _≤_};
 ghost use lib.ListN.{length};

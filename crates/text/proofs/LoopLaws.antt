@@ -1,13 +1,13 @@
 -- Laws of the loop that bytes say: what stops its judging, what it has where there is no fault, and its wires' text. Assumes nothing.
 use mathlib.Core.Path.{_≡_, refl, sym, ap, ap₂, _∙_}
-use mathlib.Core.Bool.{true, _&&_}
+use mathlib.Core.Bool.{true}
 use mathlib.Core.List.{List, _++_}
-use Prim.Native.Nat.{ℕ, zero, suc, _*_, _/_, _%_, _<_, _≤_}
+use Prim.Native.Nat.{ℕ, zero, suc, _*_, _%_, _<_, _≤_}
 use native.Mathlib.Omega.{arith}
 use lib.Dec.{ltb, leb, eqb}
 use lib.ListN.{length}
-use borrow.Author.Tests.{eqb-true, leb-true}
-use Rattle.words.specs.Loops.{first, unless, _then_}
+use borrow.Author.Tests.{leb-true}
+use Rattle.words.specs.Loops.{first, unless}
 use Rattle.words.proofs.LoopLaws.{and-split, length-tab, getD-tab}
 use Rattle.words.proofs.FaultLaws.{first-hit, first-le, then-split, then-le, unless-true, unless-le}
 use Rattle.records.specs.declared.reading.Reason.{Reason}

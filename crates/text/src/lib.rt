@@ -5,7 +5,6 @@ ghost use Prim.Native.Nat.{_≤_};
 ghost use Rattle.records.specs.Answers.{reason-number};
 ghost use Rattle.plans.specs.Plan.{plan-read};
 ghost use Rattle.plans.specs.Judging.{plan-fault};
-ghost use Rattle.judging.specs.Answers.{plan-answer};
 ghost use Rattle.lines.specs.Text.{plan-text, refused-text, loop-text};
 ghost use Rattle.text.specs.Texting.{texted-number, texted-length, Texting, loop-wires, loop-fault, Got};
 use crate::refusals::judge_loop;
@@ -72,6 +71,7 @@ fn plan_shown(plan: &[u8], p: Plan, out: &mut [u8]) -> Texted
 // The text of a plan.
 pub fn plan_text(plan: &[u8], out: &mut [u8]) -> Texted
     ensures { λ r. ⌜ Texting (plan-fault (now (plan .entry))) (plan-text (plan-read (now (plan .entry)))) (now (out .entry)) (texted-number r) (texted-length r) (now (out .exit)) ⌝ }
+    ensures { λ r. do ⌜ texted-length r ≤ (← ⟦Texted::LONGEST⟧ .entry) ⌝ }
 {
     match judge(plan) {
         PlanRead::Got(p) => plan_shown(plan, p, out),

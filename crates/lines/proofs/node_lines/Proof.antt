@@ -1,5 +1,5 @@
 -- `lines::node_lines` meets its contract: each turn writes the line of one node more. Assumes nothing.
-use mathlib.Core.Path.{_≡_, sym, ap, _∙_}
+use mathlib.Core.Path.{sym, ap, _∙_}
 use Prim.Native.Nat.{ℕ, _-_, _*_, _≤_}
 use native.Mathlib.Omega.{arith}
 use Rattle.plans.specs.Plan.{plan-node-at, plan-read}

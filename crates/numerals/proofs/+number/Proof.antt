@@ -1,3 +1,4 @@
+-- `numerals::number` meets its contract: the measure is the number, which its tenth is below. Assumes nothing.
 use Prim.Native.Nat.{ℕ, _<_}
 use native.Mathlib.Omega.{arith}
 use Rattle.numerals.proofs.DigitLaws.{decimal-tenth}
@@ -21,7 +22,6 @@ number-at t = and 1 number-kinds.ps (is 1 number-kinds.ps μ-number t) number.Pr
 abbrev number-below : ℕ → In 1 number-kinds.ps
 number-below t = and 1 number-kinds.ps (falls 1 number-kinds.ps _<_ μ-number t) number.Pre
 
--- src/writer.rt:51:34
 number-cast-put : (t : ℕ) → number-lts.Need-cast-put (
   put-reads.Asked,
   put-reads.Learnt,
@@ -30,7 +30,6 @@ number-cast-put : (t : ℕ) → number-lts.Need-cast-put (
 ) (number-at t) number.Post
 number-cast-put t c = search needs
 
--- src/writer.rt:51:29
 number-add-put : (t : ℕ) → number-lts.Need-add-put (
   put-reads.Asked,
   put-reads.Learnt,
@@ -39,7 +38,6 @@ number-add-put : (t : ℕ) → number-lts.Need-add-put (
 ) (number-at t) number.Post
 number-add-put t c = search needs
 
--- src/writer.rt:51:9
 number-put-requires : (t : ℕ) → number-lts.Need-put-requires (
   put-reads.Asked,
   put-reads.Learnt,
@@ -48,7 +46,6 @@ number-put-requires : (t : ℕ) → number-lts.Need-put-requires (
 ) (number-at t) number.Post
 number-put-requires t c κs = search needs
 
--- src/writer.rt:51:9
 number-same-length : (t : ℕ) → number-lts.Need-same-length (
   put-reads.Asked,
   put-reads.Learnt,
@@ -57,7 +54,6 @@ number-same-length : (t : ℕ) → number-lts.Need-same-length (
 ) (number-at t) number.Post
 number-same-length t c = search needs
 
--- src/writer.rt:51:9
 number-returns : (t : ℕ) → number-lts.Need-returns (
   put-reads.Asked,
   put-reads.Learnt,
@@ -66,7 +62,6 @@ number-returns : (t : ℕ) → number-lts.Need-returns (
 ) (number-at t) number.Post
 number-returns t c = number-one _ (c .before .before .before .before .if1 .taken) (c .before .before .put .ensures)
 
--- src/writer.rt:53:9
 number-number-requires : (t : ℕ) → number-lts.Need-number-requires (
   put-reads.Asked,
   put-reads.Learnt,
@@ -75,7 +70,6 @@ number-number-requires : (t : ℕ) → number-lts.Need-number-requires (
 ) (number-at t) number.Post
 number-number-requires t c κs = (omega (arith, c .before .before .before .pre .0, c .before .if1 .left), c .before .before .before .pre .1)
 
--- src/writer.rt:54:25
 number-cast-put-2 : (t : ℕ) → number-lts.Need-cast-put-2 (
   put-reads.Asked,
   put-reads.Learnt,
@@ -84,7 +78,6 @@ number-cast-put-2 : (t : ℕ) → number-lts.Need-cast-put-2 (
 ) (number-at t) number.Post
 number-cast-put-2 t c = search needs
 
--- src/writer.rt:54:20
 number-add-put-2 : (t : ℕ) → number-lts.Need-add-put-2 (
   put-reads.Asked,
   put-reads.Learnt,
@@ -93,7 +86,6 @@ number-add-put-2 : (t : ℕ) → number-lts.Need-add-put-2 (
 ) (number-at t) number.Post
 number-add-put-2 t c = search needs
 
--- src/writer.rt:54:5
 number-put-requires-2 : (t : ℕ) → number-lts.Need-put-requires-2 (
   put-reads.Asked,
   put-reads.Learnt,
@@ -102,7 +94,6 @@ number-put-requires-2 : (t : ℕ) → number-lts.Need-put-requires-2 (
 ) (number-at t) number.Post
 number-put-requires-2 t c κs = omega (arith, c .before .before .before .number .ensures .next-is, c .before .before .before .before .before .before .before .pre .1, decimal-tenth (c .before .before .before .before .before .before .before .args .n) (c .before .before .before .before .before .if1 .left) (c .before .before .before .before .before .before .before .fits .n .fits))
 
--- src/writer.rt:46:1
 number-same-length-2 : (t : ℕ) → number-lts.Need-same-length-2 (
   put-reads.Asked,
   put-reads.Learnt,
@@ -111,7 +102,6 @@ number-same-length-2 : (t : ℕ) → number-lts.Need-same-length-2 (
 ) (number-at t) number.Post
 number-same-length-2 t c = search needs
 
--- src/writer.rt:46:1
 number-returns-2 : (t : ℕ) → number-lts.Need-returns-2 (
   put-reads.Asked,
   put-reads.Learnt,

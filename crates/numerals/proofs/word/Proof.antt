@@ -4,7 +4,6 @@ use native.Mathlib.Omega.{arith}
 use lib.ListN.{length, take}
 use Rattle.numerals.specs.Wrote.{Wrote}
 use Rattle.numerals.proofs.WroteLaws.{wrote-nothing, wrote-more, wrote-whole, wrote-length}
-use borrow.Author.Needs.{needs}
 use Rattle.numerals.proofs.word.Statement.{statement}
 use Rattle.numerals.proofs.word.Tie as tie
 

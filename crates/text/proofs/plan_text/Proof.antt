@@ -24,10 +24,10 @@ same-length : tie.Need-same-length
 same-length c = search needs
 
 returns : tie.Need-returns
-returns c = search needs
+returns c = let shown = c .before .before .plan-shown .ensures in (shown, shown .short)
 
 returns-2 : tie.Need-returns-2
-returns-2 c = plan-refused _ _ _ (sym (c .before .before .before .before .judge .ensures) ∙ c .before .before .why .given .1) (c .refused .ensures .0) (c .refused .ensures .1)
+returns-2 c = let refused = plan-refused _ _ _ (sym (c .before .before .before .before .judge .ensures) ∙ c .before .before .why .given .1) (c .refused .ensures .0) (c .refused .ensures .1) in (refused, refused .short)
 
 pub plan-text-spec : {M : Type 1} → statement M
 plan-text-spec =
