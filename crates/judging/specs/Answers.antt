@@ -12,10 +12,11 @@ use Rattle.words.specs.Loops.{some-of, first, unless, _then_}
 use Rattle.words.specs.Masks.{in-mask}
 use Rattle.records.specs.declared.reading.HeaderRead.{HeaderRead}
 use Rattle.records.specs.declared.reading.HeaderRead.the-variants as H
+use Rattle.records.specs.declared.reading.Judged.the-variants as J
 use Rattle.slots.specs.declared.feeding.Input.{Input}
 use Rattle.slots.specs.Feeding.{FedOf}
 use Rattle.records.specs.Records.{at, nodes-in, wires-in, counts-fit, wire-place, record-fault, node-fits, clashes, runs-in, occupied, fed-once}
-use Rattle.records.specs.Answers.{reason-number, answer, header-fault}
+use Rattle.records.specs.Answers.{reason-number, answer, judged, header-fault}
 use Rattle.plans.specs.declared.Plan.{Plan as Header}
 use Rattle.plans.specs.declared.Joint.{Joint}
 use Rattle.plans.specs.Plan.{Plan, Switch, unit-in, node-in, switch-in, plan-format, plan-read}
@@ -117,10 +118,15 @@ no-cycles = record { 0 = pos 0 }
 abbrev pub TapsOf : Plan → ℕ → List Cycles → Type 0
 TapsOf p n l = (q : ℕ) → q < 8 → getD l q no-cycles .0 ≡ pos (longest-tap n (switch-in p) q)
 
--- what the first n switches join: the inputs that they feed, and the largest taps
-pub record JoinedBy (p : Plan) (n : ℕ) (r : Joined) : Type 0 where
+-- what n switches join: the inputs that they feed, and the largest taps
+pub record Joins (p : Plan) (n : ℕ) (r : Joined) : Type 0 where
   pub fed-so : FedOf n (input-of p) (r .fed)
   pub taps-so : TapsOf p n (r .taps)
+
+-- the switches' first fault, and what they join where there is none
+pub record JoinedBy (b : List ℕ) (n : ℕ) (r : Joined) : Type 0 where
+  pub judged-is : r .judged ≡ judged (switches-fault b)
+  pub joins : r .judged ≡ J.Passed → Joins (plan-read b) n r
 
 -- the largest tap that reads unit q, and a mask with a one for each of its occupied slots
 pub record UnitFigures (p : Plan) (q : ℕ) (tap : ℤ) (mask : ℕ) : Type 0 where
