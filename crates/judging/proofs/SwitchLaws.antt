@@ -4,9 +4,11 @@ use mathlib.Core.Logic.{_⊎_, inl, inr}
 use mathlib.Core.Bool.{Bool, true, false, not, _&&_, and-true, and-false, and-comm, and-assoc}
 use mathlib.Core.List.{List}
 use Prim.Native.Nat.{ℕ, zero, suc, _+_, _*_, _<_, _≤_}
+use native.Mathlib.Decide.{decLe, ℕ-discrete}
 use native.Mathlib.Omega.{arith}
 use lib.Dec.{ltb, leb, eqb}
-use lib.ListN.{length, getD}
+use lib.ListN.{length, getD, set}
+use lib.Seq.{getD-set-same, getD-set-other}
 use borrow.Author.Tests.{lt-ltb, le-ltb, eqb-true}
 use Rattle.words.specs.Loops.{some-of, unless}
 use Rattle.words.specs.Masks.{in-mask}
@@ -28,11 +30,11 @@ use Rattle.plans.specs.Heads.{joint-at, Whole}
 use Rattle.plans.specs.Judging.{switch-fits}
 use Rattle.plans.proofs.ReadLaws.{fold-read, units-read, nodes-read, switches-read}
 use Rattle.plans.proofs.JudgingLaws.{SwitchFits, switch-split}
-use Rattle.plans.proofs.WholeLaws.{nodes-so, switch-so}
+use Rattle.plans.proofs.WholeLaws.{folds-so, units-so, nodes-so, switch-so}
 use Rattle.judging.proofs.RunLaws.{switch-place-said}
 use Rattle.judging.specs.declared.switches.SwitchRead.{SwitchRead}
 use Rattle.judging.specs.declared.switches.SwitchRead.the-variants as S
-use Rattle.judging.specs.Answers.{as-switch, switch-fault, switch-number, switch-answer, clash-fault, input-of, Fronted, Held, Occupied}
+use Rattle.judging.specs.Answers.{as-switch, fits-by, switch-fault, switch-number, switch-answer, clash-fault, input-of, Fronted, Held, Occupied, InputsOf}
 
 -- ---- nodes in their ranges
 
@@ -98,6 +100,23 @@ module _ (b : List ℕ) (p : Header) (f : Fronted b p) where
       rw (lt-ltb (w .unit) (length (pl .units)) hu, lt-ltb (w .slot) (pl .fold) hs, fed-node (w .unit) (w .slot) (w .input), sym (occ .taken (w .unit) (w .slot)))
       (sym (and-assoc source has (in-mask (getD masks (w .unit) 0) (w .slot))))
 
+  -- the code's test is that of the ranges
+  pub fits-so : (masks few : List ℕ) → Occupied (plan-read b) masks → InputsOf (plan-read b) (p .units) few → (j : Joint) → fits-by p masks few j ≡ switch-fits (plan-read b) (as-switch j)
+  fits-so masks few occ ins j =
+      let pl = plan-read b in
+      let us = units-so b p (f .whole) in
+      let vs = folds-so b p (f .whole) in
+      elim (decLe (p .units) (j .unit)) [
+        | yes far ↦ rw (le-ltb (j .unit) (p .units) far) (sym (off-unit (as-switch j) (omega (arith, us))))
+        | no near ↦ elim (decLe (p .fold) (j .slot)) [
+          | yes far ↦ rw (le-ltb (j .slot) (p .fold) far, and-false (ltb (j .unit) (p .units))) (sym (off-turn (as-switch j) (omega (arith, vs))))
+          | no turn ↦
+              let on : j .unit < p .units = omega arith in
+              let at : j .slot < p .fold = omega arith in
+              rw (lt-ltb (j .unit) (p .units) on, lt-ltb (j .slot) (p .fold) at, ins (j .unit) on, us) (sym (on-both (as-switch j) masks occ (omega (arith, us)) (omega (arith, vs))))
+        ]
+      ]
+
   -- what the reader got of switch e
   pub joint-fits : (e : ℕ) → e < p .wires → (j : Joint) → j ≡ joint-at b (9 + 7 * p .units + 9 * p .nodes + 8 * e) →
       switch-fits (plan-read b) (as-switch j) ≡ switch-fits (plan-read b) (switch-in (plan-read b) e)
@@ -112,6 +131,18 @@ module _ (b : List ℕ) (p : Header) (f : Fronted b p) where
         in-turn = omega (arith, g .in-turn, fold-read b, counts-of .fold-most);
         one-of = omega (arith, g .input-fits, inputs-few (kind-of (n .op)));
       }
+
+-- the code's test of a switch whose unit and slot are in range
+pub fits-both : (p : Header) (masks few : List ℕ) (j : Joint) (taken : Bool) → j .unit < p .units → j .slot < p .fold → taken ≡ in-mask (getD masks (j .unit) 0) (j .slot) →
+    (ltb (j .source) (p .units) && ltb (j .input) (getD few (j .unit) 0) && taken) ≡ fits-by p masks few j
+fits-both p masks few j taken on turn is = rw (lt-ltb (j .unit) (p .units) on, lt-ltb (j .slot) (p .fold) turn, is) refl
+
+-- the inputs of one unit more
+pub inputs-more : (p : Plan) (q x : ℕ) (l : List ℕ) → InputsOf p q l → q < length l → x ≡ inputs (unit-in p q .unit .kind) → InputsOf p (q + 1) (set l q x)
+inputs-more p q x l before fits is k h = elim (ℕ-discrete k q) [
+  | yes same ↦ rw same (getD-set-same l q x 0 fits ∙ is)
+  | no other ↦ getD-set-other l q k x 0 other ∙ before k (omega arith)
+]
 
 -- ---- the masks of the plan's nodes
 

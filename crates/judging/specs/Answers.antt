@@ -3,13 +3,14 @@ use mathlib.Core.Path.{_≡_}
 use mathlib.Core.Bool.{Bool, true, not, _&&_}
 use mathlib.Core.List.{List}
 use Prim.Native.Nat.{ℕ, _^_, _<_}
-use lib.Dec.{leb, eqb}
+use lib.Dec.{ltb, leb, eqb}
 use lib.ListN.{length, getD}
 use lib.IntN.{ℤ, pos}
 use lib.Count.{ones}
 use Rattle.words.specs.declared.time.Cycles.{Cycles}
 use Rattle.words.specs.Loops.{some-of, first, unless, _then_}
 use Rattle.words.specs.Masks.{in-mask}
+use Rattle.records.specs.Units.{inputs}
 use Rattle.records.specs.declared.reading.HeaderRead.{HeaderRead}
 use Rattle.records.specs.declared.reading.HeaderRead.the-variants as H
 use Rattle.records.specs.declared.reading.Judged.the-variants as J
@@ -106,6 +107,15 @@ pub record Occupied (p : Plan) (masks : List ℕ) : Type 0 where
   pub taken : (q v : ℕ) → in-mask (getD masks q 0) v ≡ some-of (length (p .nodes)) (λ x. runs-in q v (node-in p x .node))
   pub small : (q : ℕ) → getD masks q 0 < 2 ^ 32
   pub eight : length masks ≡ 8
+
+-- how many inputs each of the first n units has
+abbrev pub InputsOf : Plan → ℕ → List ℕ → Type 0
+InputsOf p n l = (q : ℕ) → q < n → getD l q 0 ≡ inputs (unit-in p q .unit .kind)
+
+-- a switch's ranges, by the masks of occupied slots and the numbers of inputs
+abbrev pub fits-by : Header → List ℕ → List ℕ → Joint → Bool
+fits-by p masks few j =
+    ltb (j .unit) (p .units) && ltb (j .slot) (p .fold) && (ltb (j .source) (p .units) && ltb (j .input) (getD few (j .unit) 0) && in-mask (getD masks (j .unit) 0) (j .slot))
 
 -- the input that switch e feeds
 abbrev pub input-of : Plan → ℕ → Input

@@ -1,12 +1,13 @@
 // The switches of a plan: read in file order, each with an input of its unit in an occupied slot; the inputs that they feed, and the
 // largest taps.
 ghost use mathlib.Core.Path.{_≡_};
-ghost use Prim.Native.Nat.{_<_};
+ghost use Prim.Native.Nat.{_<_, _≤_};
+ghost use lib.ListN.{length};
 ghost use lib.IntN.{pos};
+ghost use Rattle.records.specs.Records.{most-fold, most-units};
 ghost use Rattle.records.specs.Answers.{judged};
 ghost use Rattle.plans.specs.Plan.{switch-in, plan-read};
-ghost use Rattle.plans.specs.Judging.{switch-fits};
-ghost use Rattle.judging.specs.Answers.{as-switch, switch-number, switch-answer, Fronted, Occupied, JoinedBy};
+ghost use Rattle.judging.specs.Answers.{fits-by, switch-number, switch-answer, Fronted, Occupied, InputsOf, JoinedBy};
 use plans::Joint;
 use plans::Plan;
 use plans::joint_at;
@@ -26,11 +27,27 @@ pub enum SwitchRead {
     Refused(Reason),
 }
 
-// Whether a switch joins units, and feeds an input that its unit has in an occupied slot.
-fn switch_fits(b: &[u8], p: Plan, occupied: &[u32], j: Joint) -> bool
+// How many inputs each unit has.
+fn inputs_of(b: &[u8], p: Plan) -> [u8; 8]
     requires { ⌜ Fronted (now b) p ⌝ }
-    requires { ⌜ Occupied (plan-read (now b)) (now occupied) ⌝ }
-    ensures { λ r. ⌜ r ≡ switch-fits (plan-read (now (b .entry))) (as-switch j) ⌝ }
+    ensures { λ r. ⌜ InputsOf (plan-read (now (b .entry))) (p .units) r ⌝ }
+{
+    let count = p.units as usize;
+    let mut inputs = [0u8; 8];
+    let mut q = 0;
+    while q < count {
+        let unit = unit_in(b, p.unit_run(), q);
+        inputs[q] = Unit::inputs(unit.kind);
+        q += 1;
+    }
+    inputs
+}
+
+// Whether a switch joins units, and feeds an input that its unit has in an occupied slot.
+fn switch_fits(p: Plan, occupied: &[u32], inputs: &[u8], j: Joint) -> bool
+    requires { ⌜ (p .units ≤ most-units) × (p .fold ≤ most-fold) ⌝ }
+    requires { ⌜ (length (now occupied) ≡ most-units) × (length (now inputs) ≡ most-units) ⌝ }
+    ensures { λ r. ⌜ r ≡ fits-by p (now (occupied .entry)) (now (inputs .entry)) j ⌝ }
 {
     if p.units <= j.unit {
         return false;
@@ -39,15 +56,14 @@ fn switch_fits(b: &[u8], p: Plan, occupied: &[u32], j: Joint) -> bool
         return false;
     }
     let q = j.unit as usize;
-    let unit = unit_in(b, p.unit_run(), q);
-    (j.source < p.units)
-        & (j.input < Unit::inputs(unit.kind))
-        & masks::has_slot(occupied[q], j.slot)
+    (j.source < p.units) & (j.input < inputs[q]) & masks::has_slot(occupied[q], j.slot)
 }
 
-fn read_switch(b: &[u8], p: Plan, occupied: &[u32], e: usize) -> SwitchRead
+fn read_switch(b: &[u8], p: Plan, occupied: &[u32], inputs: &[u8], e: usize) -> SwitchRead
     requires { ⌜ Fronted (now b) p ⌝ }
     requires { ⌜ Occupied (plan-read (now b)) (now occupied) ⌝ }
+    requires { ⌜ InputsOf (plan-read (now b)) (p .units) (now inputs) ⌝ }
+    requires { ⌜ length (now inputs) ≡ most-units ⌝ }
     requires { ⌜ e < p .wires ⌝ }
     ensures { λ r. ⌜ r ≡ switch-answer (now (b .entry)) e ⌝ }
 {
@@ -55,7 +71,7 @@ fn read_switch(b: &[u8], p: Plan, occupied: &[u32], e: usize) -> SwitchRead
         return SwitchRead::Refused(Reason::Mark);
     }
     let joint = joint_at(b, p.switch_place(e));
-    if switch_fits(b, p, occupied, joint) {
+    if switch_fits(p, occupied, inputs, joint) {
         SwitchRead::Got(joint)
     } else {
         SwitchRead::Refused(Reason::Range)
@@ -97,9 +113,10 @@ pub fn join_switches(b: &[u8], p: Plan, occupied: &[u32]) -> Joined
     let mut twice = false;
     let mut fed = [0u32; 16];
     let mut taps = [Cycles::zero(); 8];
+    let inputs = inputs_of(b, p);
     let mut e = 0;
     while e < count {
-        let got = read_switch(b, p, occupied, e);
+        let got = read_switch(b, p, occupied, &inputs[..], e);
         let SwitchRead::Got(j) = got else {
             let judged = switch_judged(got);
             return Joined {

@@ -24,11 +24,11 @@ use Rattle.judging.proofs.switches.join_switches.Statement.{statement}
 use Rattle.judging.proofs.switches.join_switches.Tie as tie
 
 abbrev Inv-loop : tie.InvT-loop
-Inv-loop b p occupied count twice₀ fed₀ taps₀ e₀ twice fed taps e =
+Inv-loop b p occupied count twice₀ fed₀ taps₀ inputs e₀ twice fed taps e =
     (e ≤ p .wires) × (first e (switch-fault b) ≡ 0) × Feeding (input-of (plan-read b)) e twice fed × (length taps ≡ 8) × TapsOf (plan-read b) e taps
 
 abbrev μ-loop : tie.MeasureT-loop
-μ-loop b p occupied count twice₀ fed₀ taps₀ e₀ twice fed taps e = p .wires - e
+μ-loop b p occupied count twice₀ fed₀ taps₀ inputs e₀ twice fed taps e = p .wires - e
 
 cast-count : tie.Need-cast-count Inv-loop μ-loop
 cast-count c = search needs
@@ -36,13 +36,26 @@ cast-count c = search needs
 zero-requires : tie.Need-zero-requires Inv-loop μ-loop
 zero-requires c κs = search needs
 
+inputs-of-requires : tie.Need-inputs-of-requires Inv-loop μ-loop
+inputs-of-requires c κs = search needs
+
 loop-holds : tie.Need-loop-holds Inv-loop μ-loop
 unfolding first
 loop-holds c =
-    (omega arith, refl, feeding-none _ _ refl (empty-at 16), refl, taps-none (plan-read (c .before .before .before .before .args .b .now)) (c .zero .result) (c .zero .ensures))
+    (omega arith, refl, feeding-none _ _ refl (empty-at 16), refl, taps-none (plan-read (c .before .before .before .before .before .args .b .now)) (c .before .zero .result) (c .before .zero .ensures))
+
+slice-aggregate-read-switch : tie.Need-slice-aggregate-read-switch Inv-loop μ-loop
+slice-aggregate-read-switch c = search needs
+
+-- a number for each of eight units
+eight : (c : tie.After-inputs-of Inv-loop μ-loop) → length (c .inputs-of .result) ≡ 8
+eight c = search needs
 
 read-switch-requires : tie.Need-read-switch-requires Inv-loop μ-loop
-read-switch-requires c κs = search needs
+read-switch-requires c κs =
+    let s = c .before .before .before .before .before .before .before .before in
+    let i = c .before .before .before in
+    (s .pre .0, (s .pre .1, (i .inputs-of .ensures, (eight i, c .before .loop-test .taken))))
 
 enum-known-got : tie.Need-enum-known-got Inv-loop μ-loop
 enum-known-got c = search needs
@@ -56,24 +69,24 @@ switch-judged-requires c κs = search needs
 returns : tie.Need-returns Inv-loop μ-loop
 returns c =
     let g = c .before .before .before in
-    let l = g .before .before in
-    let s = l .before .before .before .before .before in
+    let l = g .before .before .before in
+    let s = l .before .before .before .before .before .before in
     let b = s .args .b .now in
     let why = c .before .enum-told .given in
     let told = switch-told b (l .loop .e) (g .read-switch .result) (g .read-switch .ensures) in
     let is = c .switch-judged .ensures ∙ ap judged told in
     let fault = sym told ∙ ap switch-number (why .1) in
     record {
-      judged-is = is ∙ run-refused (wires-in b) (l .loop .e) _ (why .0 .0) (omega (arith, g .before .loop-test .taken, wires-so _ _ (s .pre .0 .whole), switches-read b)) (l .loop .inv .1) fault;
+      judged-is = is ∙ run-refused (wires-in b) (l .loop .e) _ (why .0 .0) (omega (arith, g .before .before .loop-test .taken, wires-so _ _ (s .pre .0 .whole), switches-read b)) (l .loop .inv .1) fault;
       joins = λ passed. absurd (omega (arith, passed-none (switch-fault b (l .loop .e)) (sym is ∙ passed), fault, reason-positive (why .0 .0)));
     }
 
 -- the switch that the reader got
-got : (c : tie.After-got Inv-loop μ-loop) → GotSwitch (c .before .before .before .before .before .before .before .before .before .args .b .now) (c .before .before .before .before .loop .e) (c .got .given .0 .0)
+got : (c : tie.After-got Inv-loop μ-loop) → GotSwitch (c .before .before .before .before .before .before .before .before .before .before .before .args .b .now) (c .before .before .before .before .before .loop .e) (c .got .given .0 .0)
 got c =
     let g = c .before .before in
-    let s = g .before .before .before .before .before .before .before in
-    switch-got (s .args .b .now) (s .args .p) (s .pre .0) (g .before .before .loop .e) (g .before .loop-test .taken) (c .got .given .0 .0) (sym (g .read-switch .ensures) ∙ c .got .given .1)
+    let s = c .before .before .before .before .before .before .before .before .before .before .before in
+    switch-got (s .args .b .now) (s .args .p) (s .pre .0) (c .before .before .before .before .before .loop .e) (c .before .before .before .before .loop-test .taken) (c .got .given .0 .0) (sym (g .read-switch .ensures) ∙ c .got .given .1)
 
 mask-below : (c : tie.After-mask Inv-loop μ-loop) → c .mask .result < 16
 mask-below c =
@@ -130,7 +143,7 @@ array-set-from-taps : tie.Need-array-set-from-taps Inv-loop μ-loop
 array-set-from-taps c = got (c .before .before .before .before .before .before .before .before) .few
 
 add-e : tie.Need-add-e Inv-loop μ-loop
-add-e c = omega (arith, c .before .before .before .before .before .before .before .before .before .before .before .loop-test .taken, c .before .before .before .before .before .before .before .before .before .before .before .before .before .before .struct-known .given)
+add-e c = omega (arith, c .before .before .before .before .before .before .before .before .before .before .before .before .loop-test .taken, c .before .before .before .before .before .before .before .before .before .before .before .before .before .before .before .before .struct-known .given)
 
 loop-less : tie.Need-loop-less Inv-loop μ-loop
 loop-less c = search needs
@@ -140,9 +153,9 @@ loop-again c =
     let masks = c .before .before .before .before in
     let h = masks .before .before .before .before in
     let g = got h in
-    let l = h .before .before .before .before in
-    let s = l .before .before .before .before .before in (
-      omega (arith, h .before .before .before .loop-test .taken),
+    let l = h .before .before .before .before .before in
+    let s = l .before .before .before .before .before .before in (
+      omega (arith, h .before .before .before .before .loop-test .taken),
       first-more _ _ (l .loop .inv .1) (g .faultless),
       feeding-next _ _ _ _ (l .loop .inv .2) (g .masked) _ (g .input-is) _ (masks .before .before .mask .ensures) _ (masks .before .has-slot .ensures) _ (masks .with-slot .ensures),
       simp length-set (l .loop .inv .3),
@@ -153,7 +166,7 @@ loop-again c =
 returns-2 : tie.Need-returns-2 Inv-loop μ-loop
 returns-2 c =
     let l = c .before in
-    let s = l .before .before .before .before .before in
+    let s = l .before .before .before .before .before .before in
     let b = s .args .b .now in
     let all : l .loop .e ≡ s .args .p .wires = omega (arith, l .loop .inv .0, c .loop-test .left) in
     let end : l .loop .e ≡ wires-in b = omega (arith, wires-so _ _ (s .pre .0 .whole), switches-read b) in
@@ -175,7 +188,9 @@ join-switches-spec =
     μ-loop
     cast-count
     zero-requires
+    inputs-of-requires
     loop-holds
+    slice-aggregate-read-switch
     read-switch-requires
     enum-known-got
     enum-told
