@@ -68,10 +68,11 @@ pub fn shift(memory: &mut [u32], from: usize, n: usize, x: u32)
 }
 
 // Each unit's places move by one, its result first, and t rises by 1.
-pub fn advance(plan: &[u8], p: Plan, lines: Lines, memory: &mut [u32], results: [u32; 8])
+pub fn advance(plan: &[u8], p: Plan, lines: Lines, memory: &mut [u32], results: &[u32])
     requires { ⌜ Ready (now plan) p lines (now memory) ⌝ }
     requires { ⌜ at (now memory) 0 + 1 < 2 ^ 32 ⌝ }
-    ensures { λ r. ⌜ now (memory .exit) ≡ advanced (plan-read (now (plan .entry))) (now (memory .entry)) results ⌝ }
+    requires { ⌜ p .units ≤ length (now results) ⌝ }
+    ensures { λ r. ⌜ now (memory .exit) ≡ advanced (plan-read (now (plan .entry))) (now (memory .entry)) (now (results .entry)) ⌝ }
 {
     let units = p.units as usize;
     let mut q = 0;

@@ -211,7 +211,7 @@ fn step_judged(
     }
     let words = results(plan, p, lines, memory, channels);
     leave(plan, p, lines, memory, out);
-    advance(plan, p, lines, memory, words);
+    advance(plan, p, lines, memory, &words[..]);
     Stepped::Done
 }
 

@@ -17,49 +17,43 @@ use borrow.Author.Needs.{needs}
 use Rattle.judging.proofs.judge_inputs.Statement.{statement}
 use Rattle.judging.proofs.judge_inputs.Tie as tie
 
-joined-by-requires : tie.Need-joined-by-requires
-joined-by-requires c κs = search needs
-
 returns : tie.Need-returns
 unfolding reason-of
 returns c =
-    let s = c .before .before .before .before in
-    let joined = c .before .before .joined-by in
-    rw (fed-twice _ _ (s .pre .0) (s .args .t3) (s .pre .1) (joined .result .fed) (joined .ensures .fed-so) (c .if1 .taken)) refl
+    let s = c .before .before .before in
+    rw (fed-twice _ _ (s .pre .0) (s .args .t3) (s .pre .1 .0) (s .args .joined .fed) (s .pre .1 .1 .fed-so) (c .if1 .taken)) refl
 
 unit-run-requires : tie.Need-unit-run-requires
 unit-run-requires c κs = search needs
 
 units-fed-requires : tie.Need-units-fed-requires
 units-fed-requires c κs =
-    let s = c .before .before .before .before .before .before in
+    let s = c .before .before .before .before .before in
     let w = s .pre .0 .front .whole in
     (unit-room _ _ w (c .unit-run .result) (c .unit-run .ensures), omega (arith, counts-of (s .args .b .now) (s .args .p) (s .pre .0 .front) .units-most, units-so _ _ w, units-read (s .args .b .now), ap (λ (r : Run). r .count) (c .unit-run .ensures)))
 
 returns-2 : tie.Need-returns-2
 unfolding reason-of
 returns-2 c =
-    let s = c .before .before .before .before .before .before .before .before in
+    let s = c .before .before .before .before .before .before .before in
     let u = c .before in
-    let joined = c .before .before .before .before .before .before .joined-by in
-    rw (fed-missing _ _ (s .pre .0) (s .args .t3) (s .pre .1) (joined .result .fed) (joined .ensures .fed-so) (u .before .unit-run .result) (u .before .unit-run .ensures) (u .units-fed .result) (u .units-fed .ensures) (not-true _ (c .if2 .taken))) refl
+    rw (fed-missing _ _ (s .pre .0) (s .args .t3) (s .pre .1 .0) (s .args .joined .fed) (s .pre .1 .1 .fed-so) (u .before .unit-run .result) (u .before .unit-run .ensures) (u .units-fed .result) (u .units-fed .ensures) (not-true _ (c .if2 .taken))) refl
 
 slice-aggregate-figures-right : tie.Need-slice-aggregate-figures-right
 slice-aggregate-figures-right c = search needs
 
 figures-right-requires : tie.Need-figures-right-requires
-figures-right-requires c κs = let s = c .before .before .before .before .before .before .before .before .before .before in (s .pre .0, (c .before .before .before .before .before .before .before .before .joined-by .ensures .taps-so, s .pre .1))
+figures-right-requires c κs = let s = c .before .before .before .before .before .before .before .before .before in (s .pre .0, (s .pre .1 .1 .taps-so, s .pre .1 .0))
 
-all-fed : (c : tie.After-figures-right) → fed-fault (plan-read (c .before .before .before .before .before .before .before .before .before .before .before .args .b .now)) ≡ 0
+all-fed : (c : tie.After-figures-right) → fed-fault (plan-read (c .before .before .before .before .before .before .before .before .before .before .args .b .now)) ≡ 0
 all-fed c =
-    let s = c .before .before .before .before .before .before .before .before .before .before .before in
+    let s = c .before .before .before .before .before .before .before .before .before .before in
     let e = c .before .before .before in
     let u = c .before .before .before .before in
-    let joined = c .before .before .before .before .before .before .before .before .before .joined-by in
-    fed-all _ _ (s .pre .0) (s .args .t3) (s .pre .1) (joined .result .fed) (joined .ensures .fed-so) (u .before .unit-run .result) (u .before .unit-run .ensures) (u .units-fed .result) (u .units-fed .ensures)
+    fed-all _ _ (s .pre .0) (s .args .t3) (s .pre .1 .0) (s .args .joined .fed) (s .pre .1 .1 .fed-so) (u .before .unit-run .result) (u .before .unit-run .ensures) (u .units-fed .result) (u .units-fed .ensures)
     (u .before .before .before .if1 .left) (not-false _ (e .if2 .left))
 
-figures-are : (c : tie.After-figures-right) → figures-fault (plan-read (c .before .before .before .before .before .before .before .before .before .before .before .args .b .now)) ≡ unless (c .figures-right .result) 9
+figures-are : (c : tie.After-figures-right) → figures-fault (plan-read (c .before .before .before .before .before .before .before .before .before .before .args .b .now)) ≡ unless (c .figures-right .result) 9
 unfolding figures-fault
 figures-are c = ap (λ (t : Bool). unless t 9) (sym (c .figures-right .ensures))
 
@@ -74,7 +68,6 @@ pub judge-inputs-spec : {M : Type 1} → statement M
 judge-inputs-spec =
     tie.close
     (tie.spec
-    joined-by-requires
     returns
     unit-run-requires
     units-fed-requires

@@ -14,12 +14,12 @@ switch-place-requires c κs = search needs
 tap-at-requires : tie.Need-tap-at-requires
 tap-at-requires c κs =
     let s = c .before .before in
-    omega (arith, c .switch-place .ensures, switch-inside _ _ (s .pre .0 .front .whole) (s .args .e) (s .pre .1))
+    omega (arith, c .switch-place .ensures, switch-inside _ _ (s .pre .0 .whole) (s .args .e) (s .pre .1))
 
 returns : tie.Need-returns
 returns c =
     let s = c .before .before .before in
-    c .tap-at .ensures ∙ rw (c .before .switch-place .ensures) (sym (ap (λ (w : Switch). pos (w .tap)) (switch-so _ _ (s .pre .0 .front .whole) (s .args .e) (s .pre .1))))
+    c .tap-at .ensures ∙ rw (c .before .switch-place .ensures) (sym (ap (λ (w : Switch). pos (w .tap)) (switch-so _ _ (s .pre .0 .whole) (s .args .e) (s .pre .1))))
 
 pub tap-of-spec : {M : Type 1} → statement M
 tap-of-spec = tie.close (tie.spec switch-place-requires tap-at-requires returns)
