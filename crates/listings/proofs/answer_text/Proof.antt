@@ -61,7 +61,7 @@ same-length : tie.Need-same-length
 same-length c = search needs
 
 returns : tie.Need-returns
-returns c = rw (c .before .before .before .before .before .before .answer .given .1) (rw (c .before .before .before .before .head .ensures) at (c .before .before .plan-text .ensures))
+returns c = rw (c .before .before .before .before .before .before .answer .given .1) (rw (c .before .before .before .before .head .ensures) at (c .before .before .plan-text .ensures .0))
 
 same-length-2 : tie.Need-same-length-2
 same-length-2 c = search needs
