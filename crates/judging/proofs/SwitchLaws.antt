@@ -1,7 +1,7 @@
 -- A switch's ranges by the masks, and the reader's answer for it. Assumes nothing.
 use mathlib.Core.Path.{_≡_, refl, sym, ap, _∙_}
-use mathlib.Core.Logic.{_⊎_, inl, inr}
-use mathlib.Core.Bool.{Bool, true, false, not, _&&_, and-true, and-false, and-comm, and-assoc}
+use mathlib.Core.Logic.{inl, inr}
+use mathlib.Core.Bool.{Bool, false, not, _&&_, and-true, and-false, and-assoc}
 use mathlib.Core.List.{List}
 use Prim.Native.Nat.{ℕ, zero, suc, _+_, _*_, _<_, _≤_}
 use native.Mathlib.Decide.{decLe, ℕ-discrete}
@@ -14,7 +14,7 @@ use Rattle.words.specs.Loops.{some-of, unless}
 use Rattle.words.specs.Masks.{in-mask}
 use Rattle.words.proofs.LoopLaws.{passed?, and-split, some-of-cong, some-and}
 use Rattle.records.specs.Units.{last-op, kind-of, inputs, inputs-of, k-fits}
-use Rattle.records.specs.Records.{wire-place, clashes, runs-in, record-fault}
+use Rattle.records.specs.Records.{wire-place, clashes, runs-in}
 use Rattle.slots.specs.declared.Slots.{Slots}
 use Rattle.slots.specs.declared.feeding.Input.{Input}
 use Rattle.slots.specs.Slots.{Masked, SlotsOf}

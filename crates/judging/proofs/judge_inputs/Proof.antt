@@ -1,5 +1,5 @@
 -- `judging::judge_inputs` meets its contract: inputs by their masks, then the figures. Assumes nothing.
-use mathlib.Core.Path.{_≡_, refl, sym, ap, _∙_}
+use mathlib.Core.Path.{_≡_, refl, sym, ap}
 use mathlib.Core.Bool.{Bool}
 use native.Mathlib.Omega.{arith}
 use borrow.Author.Tests.{not-true, not-false}

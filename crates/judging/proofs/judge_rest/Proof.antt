@@ -1,6 +1,6 @@
 -- `judging::judge_rest` meets its contract: the first part with a fault decides. Assumes nothing.
-use mathlib.Core.Path.{_≡_, refl, sym, ap, _∙_}
-use mathlib.Core.Bool.{Bool, not}
+use mathlib.Core.Path.{_≡_, refl, sym, _∙_}
+use mathlib.Core.Bool.{not}
 use Rattle.words.specs.Loops.{unless}
 use Rattle.records.specs.declared.reading.Judged.the-variants as J
 use Rattle.records.specs.Answers.{reason-of}

@@ -4,7 +4,7 @@ use native.Mathlib.Omega.{arith}
 use borrow.Author.Tests.{not-true, not-false}
 use Rattle.records.specs.Records.{marked, wire-place}
 use Rattle.records.specs.Answers.{reason-of}
-use Rattle.plans.specs.Plan.{plan-format, switch-in, plan-read}
+use Rattle.plans.specs.Plan.{plan-format}
 use Rattle.plans.specs.Heads.{joint-at}
 use Rattle.plans.specs.Judging.{switch-fits}
 use Rattle.plans.proofs.ReadLaws.{fold-read, units-read}
