@@ -1,14 +1,13 @@
 -- One turn more of each loop of a step, on plain values. Assumes nothing.
-use mathlib.Core.Path.{_≡_, refl, sym, ap, _∙_}
-use mathlib.Core.Logic.{_⊎_, inl, inr}
-use mathlib.Core.Bool.{Bool, true, false, _&&_}
+use mathlib.Core.Path.{_≡_, sym, ap, _∙_}
+use mathlib.Core.Logic.{inl, inr}
+use mathlib.Core.Bool.{Bool, true, false}
 use mathlib.Core.List.{List}
-use Prim.Native.Nat.{ℕ, suc, _+_, _*_, _-_, _<_, _≤_}
+use Prim.Native.Nat.{ℕ, suc, _+_, _*_, _-_, _<_}
 use native.Mathlib.Nat.{eq-or-lt-of-le}
 use native.Mathlib.Numerals.{add-one}
 use native.Mathlib.Decide.{ℕ-discrete}
 use native.Mathlib.Omega.{arith}
-use lib.Dec.{eqb}
 use lib.IntN.{ℤ, pos, natAbs}
 use borrow.Author.Tests.{eq-eqb, ne-eqb}
 use lib.ListN.{length, getD, set}
@@ -23,7 +22,7 @@ use Rattle.plans.specs.Plan.{PlanUnit, Switch, unit-in, node-in, switch-in, pla
 use Rattle.plans.proofs.JudgingLaws.{longest-tap-ge}
 use Rattle.cycle.specs.declared.Lines.{Lines}
 use Rattle.cycle.specs.Cycle.{base, places, size}
-use Rattle.cycle.specs.Taken.{Taken, LinesOf, last-of, Gathered, input-place, tapped-place}
+use Rattle.cycle.specs.Taken.{Taken, LinesOf, Begins, last-of, Gathered, input-place, tapped-place}
 use Rattle.plans.proofs.WholeLaws.{units-so, wires-so, unit-so, switch-so}
 use Rattle.cycle.proofs.TakenLaws.{whole-taken, few-units, places-so, unit-fine, switch-fine, line-so}
 use Rattle.cycle.proofs.MemoryLaws.{base-next}
@@ -81,19 +80,22 @@ module _ (b : List ℕ) (p : Head.Plan) (t : Taken b p) where
       omega (arith, line-so b p t q few, depth-so q few .1, base-next pl q (length (pl .units)) (omega (arith, units-so b p (whole-taken t))))
 
   -- the index that the code works out, from what it read of the plan, is that place
-  pub place-read : (lines : Lines) → LinesOf (plan-read b) lines → (e : ℕ) → e < p .wires → (source depth : ℕ) (tap : ℤ) (place : ℕ) →
+  pub place-read : (from e : ℕ) → Begins (plan-read b) e from → e < p .wires → (source depth : ℕ) (tap : ℤ) (place : ℕ) →
       source ≡ switch-in (plan-read b) e .source → depth ≡ unit-in (plan-read b) source .unit .depth → tap ≡ pos (switch-in (plan-read b) e .tap) → place ≡ depth - 1 + natAbs tap →
-      (getD (lines .at) source 0 + place ≡ tapped-place (plan-read b) e) × (getD (lines .at) source 0 + place < size (plan-read b))
+      (from + place ≡ tapped-place (plan-read b) e) × (from + place < size (plan-read b))
   unfolding size
-  place-read lines so e h source depth tap place es ed et ep =
+  place-read from e so h source depth tap place es ed et ep =
       let pl = plan-read b in
       let q = switch-in pl e .source in
-      let few = source-so e h .1 in
-      let at-q : getD (lines .at) source 0 ≡ suc (base pl q) = ap (λ (z : ℕ). getD (lines .at) z 0) es ∙ so .at q (omega (arith, units-so b p (whole-taken t))) in
       let deep : depth ≡ unit-in pl q .unit .depth = ed ∙ ap (λ (z : ℕ). unit-in pl z .unit .depth) es in
       let far : natAbs tap ≡ switch-in pl e .tap = ap natAbs et in
-      let is : getD (lines .at) source 0 + place ≡ suc (base pl q + (unit-in pl q .unit .depth - 1 + switch-in pl e .tap)) = omega arith in
+      let is : from + place ≡ suc (base pl q + (unit-in pl q .unit .depth - 1 + switch-in pl e .tap)) = omega arith in
       (is, omega (arith, is, place-inside e h))
+
+  -- where the lines say that the source's places begin
+  pub source-begins : (lines : Lines) → LinesOf (plan-read b) lines → (e source : ℕ) → e < p .wires → source ≡ switch-in (plan-read b) e .source → Begins (plan-read b) e (getD (lines .at) source 0)
+  source-begins lines so e source h is =
+      ap (λ (q : ℕ). getD (lines .at) q 0) is ∙ so .at (switch-in (plan-read b) e .source) (omega (arith, source-so e h .1, units-so b p (whole-taken t)))
 
   -- what a switch's joint says, and that its input is one of sixteen
   pub joint-so : (e : ℕ) → e < p .wires → (j : Joint) → j ≡ joint-at b (9 + 7 * p .units + 9 * p .nodes + 8 * e) →

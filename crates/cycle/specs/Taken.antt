@@ -22,6 +22,10 @@ pub record LinesOf (p : Plan) (r : Lines) : Type 0 where
   pub at : (q : ℕ) → q < length (p .units) → getD (r .at) q 0 ≡ suc (base p q)
   pub size-is : r .size ≡ size p
 
+-- the places of the unit that switch e reads begin at `from`
+abbrev pub Begins : Plan → ℕ → ℕ → Type 0
+Begins p e from = from ≡ suc (base p (switch-in p e .source))
+
 -- what a step's parts ask: a plan without fault, its lines, and a memory m with room for them
 pub record Ready (b : List ℕ) (p : Head.Plan) (lines : Lines) (m : List ℕ) : Type 0 where
   pub taken : Taken b p

@@ -1,11 +1,11 @@
 // One cycle of a plan that has been judged: where its places stand, the words at the inputs, the results, and the places moved by one.
 ghost use mathlib.Core.Path.{_≡_};
-ghost use Prim.Native.Nat.{_+_, _<_, _≤_};
+ghost use Prim.Native.Nat.{_+_, _^_, _<_, _≤_};
 ghost use lib.ListN.{length};
 ghost use lib.IntN.{pos};
 ghost use Rattle.records.specs.Records.{at, two};
 ghost use Rattle.plans.specs.Plan.{unit-in, switch-in, plan-read};
-ghost use Rattle.cycle.specs.Taken.{Taken, LinesOf, Ready, Gathered, in-slot, input-place, tapped-place, tapped};
+ghost use Rattle.cycle.specs.Taken.{Taken, LinesOf, Begins, Ready, Gathered, in-slot, input-place, tapped-place, tapped};
 ghost use Rattle.cycle.specs.Cycle.{size};
 
 pub mod moving;
@@ -73,27 +73,28 @@ fn tap_of(plan: &[u8], p: Plan, e: usize) -> Cycles
     plans::tap_at(plan, p.switch_place(e))
 }
 
-// The place in memory that switch e reads.
-fn place_of(plan: &[u8], p: Plan, lines: Lines, e: usize) -> usize
+// The place in memory that switch e reads; the source's places begin at `from`.
+fn place_of(plan: &[u8], p: Plan, from: usize, e: usize) -> usize
     requires { ⌜ Taken (now plan) p ⌝ }
-    requires { ⌜ LinesOf (plan-read (now plan)) lines ⌝ }
+    requires { ⌜ Begins (plan-read (now plan)) e from ⌝ }
     requires { ⌜ e < p .wires ⌝ }
+    requires { ⌜ size (plan-read (now plan)) < 2 ^ 64 ⌝ }
     ensures { λ r. ⌜ (r ≡ tapped-place (plan-read (now (plan .entry))) e) × (r < size (plan-read (now (plan .entry)))) ⌝ }
 {
     let source = source_of(plan, p, e);
     let depth = depth_of(plan, p, source);
-    let place = tap_of(plan, p, e).place(depth);
-    let from = lines.at[source];
-    from + place
+    from + tap_of(plan, p, e).place(depth)
 }
 
 // The word that switch e reads.
-fn tapped(plan: &[u8], p: Plan, lines: Lines, memory: &[u32], e: usize) -> u32
-    requires { ⌜ Ready (now plan) p lines (now memory) ⌝ }
+fn tapped(plan: &[u8], p: Plan, from: usize, memory: &[u32], e: usize) -> u32
+    requires { ⌜ Taken (now plan) p ⌝ }
+    requires { ⌜ Begins (plan-read (now plan)) e from ⌝ }
     requires { ⌜ e < p .wires ⌝ }
+    requires { ⌜ size (plan-read (now plan)) ≤ length (now memory) ⌝ }
     ensures { λ r. ⌜ r ≡ tapped (plan-read (now (plan .entry))) (now (memory .entry)) e ⌝ }
 {
-    memory[place_of(plan, p, lines, e)]
+    memory[place_of(plan, p, from, e)]
 }
 
 // The words at the inputs of all units in a slot: input i of unit q at 2q + i.
@@ -108,7 +109,9 @@ pub fn inputs_in(plan: &[u8], p: Plan, lines: Lines, memory: &[u32], slot: u8) -
         let joint = plans::joint_at(plan, p.switch_place(e));
         if joint.slot == slot {
             let k = 2 * (joint.unit as usize) + joint.input as usize;
-            words[k] = tapped(plan, p, lines, memory, e);
+            let source = source_of(plan, p, e);
+            let from = lines.at[source];
+            words[k] = tapped(plan, p, from, memory, e);
         }
         e += 1;
     }

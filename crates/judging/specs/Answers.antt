@@ -3,18 +3,21 @@ use mathlib.Core.Path.{_≡_}
 use mathlib.Core.Bool.{Bool, true, not, _&&_}
 use mathlib.Core.List.{List}
 use Prim.Native.Nat.{ℕ, _^_, _<_}
-use lib.Dec.{leb, eqb}
+use lib.Dec.{ltb, leb, eqb}
 use lib.ListN.{length, getD}
 use lib.IntN.{ℤ, pos}
 use lib.Count.{ones}
 use Rattle.words.specs.declared.time.Cycles.{Cycles}
 use Rattle.words.specs.Loops.{some-of, first, unless, _then_}
 use Rattle.words.specs.Masks.{in-mask}
+use Rattle.records.specs.Units.{inputs}
 use Rattle.records.specs.declared.reading.HeaderRead.{HeaderRead}
 use Rattle.records.specs.declared.reading.HeaderRead.the-variants as H
+use Rattle.records.specs.declared.reading.Judged.the-variants as J
 use Rattle.slots.specs.declared.feeding.Input.{Input}
+use Rattle.slots.specs.Feeding.{FedOf}
 use Rattle.records.specs.Records.{at, nodes-in, wires-in, counts-fit, wire-place, record-fault, node-fits, clashes, runs-in, occupied, fed-once}
-use Rattle.records.specs.Answers.{reason-number, answer, header-fault}
+use Rattle.records.specs.Answers.{reason-number, answer, judged, header-fault}
 use Rattle.plans.specs.declared.Plan.{Plan as Header}
 use Rattle.plans.specs.declared.Joint.{Joint}
 use Rattle.plans.specs.Plan.{Plan, Switch, unit-in, node-in, switch-in, plan-format, plan-read}
@@ -22,6 +25,7 @@ use Rattle.plans.specs.Heads.{plan-head, joint-at, Whole}
 use Rattle.plans.specs.Judging.{most-chain, switch-fits, plan-feeds, longest-tap, idle-slots, figures-right, plan-fault}
 use Rattle.judging.specs.declared.PlanRead.{PlanRead}
 use Rattle.judging.specs.declared.PlanRead.the-variants as P
+use Rattle.judging.specs.declared.switches.Joined.{Joined}
 use Rattle.judging.specs.declared.switches.SwitchRead.{SwitchRead}
 use Rattle.judging.specs.declared.switches.SwitchRead.the-variants as S
 
@@ -104,6 +108,15 @@ pub record Occupied (p : Plan) (masks : List ℕ) : Type 0 where
   pub small : (q : ℕ) → getD masks q 0 < 2 ^ 32
   pub eight : length masks ≡ 8
 
+-- how many inputs each of the first n units has
+abbrev pub InputsOf : Plan → ℕ → List ℕ → Type 0
+InputsOf p n l = (q : ℕ) → q < n → getD l q 0 ≡ inputs (unit-in p q .unit .kind)
+
+-- a switch's ranges, by the masks of occupied slots and the numbers of inputs
+abbrev pub fits-by : Header → List ℕ → List ℕ → Joint → Bool
+fits-by p masks few j =
+    ltb (j .unit) (p .units) && ltb (j .slot) (p .fold) && (ltb (j .source) (p .units) && ltb (j .input) (getD few (j .unit) 0) && in-mask (getD masks (j .unit) 0) (j .slot))
+
 -- the input that switch e feeds
 abbrev pub input-of : Plan → ℕ → Input
 input-of p e = record { unit = switch-in p e .unit; slot = switch-in p e .slot; input = switch-in p e .input }
@@ -114,6 +127,16 @@ no-cycles = record { 0 = pos 0 }
 
 abbrev pub TapsOf : Plan → ℕ → List Cycles → Type 0
 TapsOf p n l = (q : ℕ) → q < 8 → getD l q no-cycles .0 ≡ pos (longest-tap n (switch-in p) q)
+
+-- what n switches join: the inputs that they feed, and the largest taps
+pub record Joins (p : Plan) (n : ℕ) (r : Joined) : Type 0 where
+  pub fed-so : FedOf n (input-of p) (r .fed)
+  pub taps-so : TapsOf p n (r .taps)
+
+-- the switches' first fault, and what they join where there is none
+pub record JoinedBy (b : List ℕ) (n : ℕ) (r : Joined) : Type 0 where
+  pub judged-is : r .judged ≡ judged (switches-fault b)
+  pub joins : r .judged ≡ J.Passed → Joins (plan-read b) n r
 
 -- the largest tap that reads unit q, and a mask with a one for each of its occupied slots
 pub record UnitFigures (p : Plan) (q : ℕ) (tap : ℤ) (mask : ℕ) : Type 0 where

@@ -4,10 +4,10 @@ ghost use Rattle.words.specs.Loops.{_then_};
 ghost use Rattle.records.specs.Answers.{judged, front-fault};
 ghost use Rattle.slots.specs.Slots.{SlotsOf};
 ghost use Rattle.plans.specs.Plan.{node-in, plan-format, plan-read};
-ghost use Rattle.judging.specs.Answers.{plan-got, header-answer, plan-answer, switches-fault, fed-fault, figures-fault, nodes-fault, HeaderSaid, Fronted, Held, Occupied};
+ghost use Rattle.judging.specs.Answers.{plan-got, header-answer, plan-answer, switches-fault, fed-fault, figures-fault, nodes-fault, HeaderSaid, Fronted, Held, Occupied, Joins};
 use crate::figures::figures_right;
-use crate::switches::fed_of;
-use crate::switches::judge_switches;
+use crate::switches::Joined;
+use crate::switches::join_switches;
 use plans::Plan;
 use records::reading::HeaderRead;
 use records::reading::Judged;
@@ -79,12 +79,13 @@ fn slots_of(b: &[u8], p: Plan) -> Slots
 }
 
 // Inputs not fed once, then figures that are not right.
-fn judge_inputs(b: &[u8], p: Plan, occupied: [u32; 8]) -> Judged
+fn judge_inputs(b: &[u8], p: Plan, occupied: [u32; 8], joined: Joined) -> Judged
     requires { ⌜ Held (now b) p ⌝ }
     requires { ⌜ Occupied (plan-read (now b)) occupied ⌝ }
+    requires { ⌜ Joins (plan-read (now b)) (p .wires) joined ⌝ }
     ensures { λ r. ⌜ r ≡ judged (fed-fault (plan-read (now (b .entry))) then figures-fault (plan-read (now (b .entry)))) ⌝ }
 {
-    let fed = fed_of(b, p);
+    let fed = joined.fed;
     if fed.twice {
         return Judged::Refused(Reason::Unfed);
     }
@@ -92,7 +93,8 @@ fn judge_inputs(b: &[u8], p: Plan, occupied: [u32; 8]) -> Judged
     if !units_fed(b, p.unit_run(), occupied, masks) {
         return Judged::Refused(Reason::Unfed);
     }
-    if !figures_right(b, p, &occupied[..]) {
+    let taps = joined.taps;
+    if !figures_right(b, p, taps, &occupied[..]) {
         return Judged::Refused(Reason::Figures);
     }
     Judged::Passed
@@ -105,14 +107,15 @@ fn judge_rest(b: &[u8], p: Plan) -> Judged
 {
     let slots = slots_of(b, p);
     let occupied = slots.occupied;
-    let switches = judge_switches(b, p, &occupied[..]);
+    let joined = join_switches(b, p, &occupied[..]);
+    let switches = joined.judged;
     let Judged::Passed = switches else {
         return switches;
     };
     if slots.clash {
         return Judged::Refused(Reason::Clash);
     }
-    judge_inputs(b, p, occupied)
+    judge_inputs(b, p, occupied, joined)
 }
 
 // The plan that the bytes are, or the reason of their first fault.

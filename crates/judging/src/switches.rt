@@ -1,14 +1,17 @@
-// The switches of a plan: read in file order, each with an input of its unit in an occupied slot, and the inputs that they feed.
+// The switches of a plan: read in file order, each with an input of its unit in an occupied slot; the inputs that they feed, and the
+// largest taps.
 ghost use mathlib.Core.Path.{_≡_};
-ghost use Prim.Native.Nat.{_<_};
+ghost use Prim.Native.Nat.{_<_, _≤_};
+ghost use lib.ListN.{length};
+ghost use lib.IntN.{pos};
+ghost use Rattle.records.specs.Records.{most-fold, most-units};
 ghost use Rattle.records.specs.Answers.{judged};
-ghost use Rattle.slots.specs.Feeding.{FedOf};
-ghost use Rattle.plans.specs.Plan.{plan-read};
-ghost use Rattle.plans.specs.Judging.{switch-fits};
-ghost use Rattle.judging.specs.Answers.{as-switch, switch-number, switch-answer, switches-fault, Fronted, Held, Occupied, input-of};
+ghost use Rattle.plans.specs.Plan.{switch-in, plan-read};
+ghost use Rattle.judging.specs.Answers.{fits-by, switch-number, switch-answer, Fronted, Occupied, InputsOf, JoinedBy};
 use plans::Joint;
 use plans::Plan;
 use plans::joint_at;
+use plans::tap_at;
 use records::Unit;
 use records::reading::Judged;
 use records::reading::Reason;
@@ -17,17 +20,34 @@ use records::reading::unit_in;
 use slots::feeding::Fed;
 use slots::feeding::Input;
 use words::masks;
+use words::time::Cycles;
 
 pub enum SwitchRead {
     Got(Joint),
     Refused(Reason),
 }
 
-// Whether a switch joins units, and feeds an input that its unit has in an occupied slot.
-fn switch_fits(b: &[u8], p: Plan, occupied: &[u32], j: Joint) -> bool
+// How many inputs each unit has.
+fn inputs_of(b: &[u8], p: Plan) -> [u8; 8]
     requires { ⌜ Fronted (now b) p ⌝ }
-    requires { ⌜ Occupied (plan-read (now b)) (now occupied) ⌝ }
-    ensures { λ r. ⌜ r ≡ switch-fits (plan-read (now (b .entry))) (as-switch j) ⌝ }
+    ensures { λ r. ⌜ InputsOf (plan-read (now (b .entry))) (p .units) r ⌝ }
+{
+    let count = p.units as usize;
+    let mut inputs = [0u8; 8];
+    let mut q = 0;
+    while q < count {
+        let unit = unit_in(b, p.unit_run(), q);
+        inputs[q] = Unit::inputs(unit.kind);
+        q += 1;
+    }
+    inputs
+}
+
+// Whether a switch joins units, and feeds an input that its unit has in an occupied slot.
+fn switch_fits(p: Plan, occupied: &[u32], inputs: &[u8], j: Joint) -> bool
+    requires { ⌜ (p .units ≤ most-units) × (p .fold ≤ most-fold) ⌝ }
+    requires { ⌜ (length (now occupied) ≡ most-units) × (length (now inputs) ≡ most-units) ⌝ }
+    ensures { λ r. ⌜ r ≡ fits-by p (now (occupied .entry)) (now (inputs .entry)) j ⌝ }
 {
     if p.units <= j.unit {
         return false;
@@ -36,15 +56,14 @@ fn switch_fits(b: &[u8], p: Plan, occupied: &[u32], j: Joint) -> bool
         return false;
     }
     let q = j.unit as usize;
-    let unit = unit_in(b, p.unit_run(), q);
-    (j.source < p.units)
-        & (j.input < Unit::inputs(unit.kind))
-        & masks::has_slot(occupied[q], j.slot)
+    (j.source < p.units) & (j.input < inputs[q]) & masks::has_slot(occupied[q], j.slot)
 }
 
-fn read_switch(b: &[u8], p: Plan, occupied: &[u32], e: usize) -> SwitchRead
+fn read_switch(b: &[u8], p: Plan, occupied: &[u32], inputs: &[u8], e: usize) -> SwitchRead
     requires { ⌜ Fronted (now b) p ⌝ }
     requires { ⌜ Occupied (plan-read (now b)) (now occupied) ⌝ }
+    requires { ⌜ InputsOf (plan-read (now b)) (p .units) (now inputs) ⌝ }
+    requires { ⌜ length (now inputs) ≡ most-units ⌝ }
     requires { ⌜ e < p .wires ⌝ }
     ensures { λ r. ⌜ r ≡ switch-answer (now (b .entry)) e ⌝ }
 {
@@ -52,7 +71,7 @@ fn read_switch(b: &[u8], p: Plan, occupied: &[u32], e: usize) -> SwitchRead
         return SwitchRead::Refused(Reason::Mark);
     }
     let joint = joint_at(b, p.switch_place(e));
-    if switch_fits(b, p, occupied, joint) {
+    if switch_fits(p, occupied, inputs, joint) {
         SwitchRead::Got(joint)
     } else {
         SwitchRead::Refused(Reason::Range)
@@ -68,53 +87,60 @@ fn switch_judged(got: SwitchRead) -> Judged
     }
 }
 
-// The first fault of the switches.
-pub fn judge_switches(b: &[u8], p: Plan, occupied: &[u32]) -> Judged
+// The tap of switch e.
+fn tap_of(b: &[u8], p: Plan, e: usize) -> Cycles
+    requires { ⌜ Fronted (now b) p ⌝ }
+    requires { ⌜ e < p .wires ⌝ }
+    ensures { λ r. ⌜ r .0 ≡ pos (switch-in (plan-read (now (b .entry))) e .tap) ⌝ }
+{
+    tap_at(b, p.switch_place(e))
+}
+
+// What the switches join: the masks of the inputs that they feed, and the largest tap that reads each unit; and their first fault.
+pub struct Joined {
+    pub fed: Fed,
+    pub taps: [Cycles; 8],
+    pub judged: Judged,
+}
+
+// The switches are judged and what they join is gathered in one pass.
+pub fn join_switches(b: &[u8], p: Plan, occupied: &[u32]) -> Joined
     requires { ⌜ Fronted (now b) p ⌝ }
     requires { ⌜ Occupied (plan-read (now b)) (now occupied) ⌝ }
-    ensures { λ r. ⌜ r ≡ judged (switches-fault (now (b .entry))) ⌝ }
-{
-    let count = p.wires as usize;
-    let mut e = 0;
-    while e < count {
-        let got = read_switch(b, p, occupied, e);
-        let SwitchRead::Got(_) = got else {
-            return switch_judged(got);
-        };
-        e += 1;
-    }
-    Judged::Passed
-}
-
-// The input that switch e feeds.
-fn input_of(b: &[u8], p: Plan, e: usize) -> Input
-    requires { ⌜ Held (now b) p ⌝ }
-    requires { ⌜ e < p .wires ⌝ }
-    ensures { λ r. ⌜ r ≡ input-of (plan-read (now (b .entry))) e ⌝ }
-{
-    let j = joint_at(b, p.switch_place(e));
-    Input {
-        unit: j.unit,
-        slot: j.slot,
-        input: j.input,
-    }
-}
-
-// The masks of the inputs that the switches feed.
-pub fn fed_of(b: &[u8], p: Plan) -> Fed
-    requires { ⌜ Held (now b) p ⌝ }
-    ensures { λ r. ⌜ FedOf (p .wires) (input-of (plan-read (now (b .entry)))) r ⌝ }
+    ensures { λ r. ⌜ JoinedBy (now (b .entry)) (p .wires) r ⌝ }
 {
     let count = p.wires as usize;
     let mut twice = false;
     let mut fed = [0u32; 16];
+    let mut taps = [Cycles::zero(); 8];
+    let inputs = inputs_of(b, p);
     let mut e = 0;
     while e < count {
-        let to = input_of(b, p, e);
+        let got = read_switch(b, p, occupied, &inputs[..], e);
+        let SwitchRead::Got(j) = got else {
+            let judged = switch_judged(got);
+            return Joined {
+                fed: Fed { twice, masks: fed },
+                taps,
+                judged,
+            };
+        };
+        let to = Input {
+            unit: j.unit,
+            slot: j.slot,
+            input: j.input,
+        };
         let m = to.mask();
         twice = twice | masks::has_slot(fed[m], to.slot);
         fed[m] = masks::with_slot(fed[m], to.slot);
+        let q = j.source as usize;
+        let longest = taps[q];
+        taps[q] = longest.larger(tap_of(b, p, e));
         e += 1;
     }
-    Fed { twice, masks: fed }
+    Joined {
+        fed: Fed { twice, masks: fed },
+        taps,
+        judged: Judged::Passed,
+    }
 }

@@ -1,8 +1,8 @@
 -- Whole rounds and rests make the live counts, and the largest of them the register figure. Assumes nothing.
-use mathlib.Core.Path.{_≡_, refl, sym, ap, _∙_}
+use mathlib.Core.Path.{_≡_, refl, sym, ap, ap₂, _∙_}
 use mathlib.Core.Bool.{Bool, true, false, cond}
 use mathlib.Core.List.{List}
-use Prim.Native.Nat.{ℕ, zero, suc, _+_, _*_, _-_, _/_, _%_, _<_, _≤_, max}
+use Prim.Native.Nat.{ℕ, zero, suc, _+_, _*_, _-_, _/_, _%_, _^_, _<_, _≤_, max}
 use native.Mathlib.Nat.{div-lt-iff-lt-mul}
 use native.Mathlib.Numerals.{add-one}
 use native.Mathlib.Omega.{arith}
@@ -83,6 +83,13 @@ module _ (b : List ℕ) (s : Head.Sheet) (f : Fine b s) (folds : foldable (net (
       (λ x hx. falls-closed n (sound-so b s f .turns) (node-of sh x .slot + depth-of sh x) (wait-of b x) t h ∙ (let e : wait-of b x / n + rest x ≡ rest x + wait-of b x / n = omega arith in e))
       ∙ total-sum (length (sh .nodes)) rest (λ x. wait-of b x / n)
       ∙ rw (nodes-so b s f) refl
+
+  -- a slot's rest and the whole rounds are its live count, which fits a word
+  pub slot-so : (r : Live) → LiveOf b (s .nodes) r → (t : ℕ) → t < sheet-of b .fold → getD (r .counts) t 0 + r .turns ≡ live (sheet-of b) (start (net (sheet-of b))) t
+  slot-so r l t h = ap₂ (λ (c n : ℕ). c + n) (l .counts-so t h) (l .turns-so) ∙ sym (live-so t h)
+
+  pub slot-fits : (r : Live) → LiveOf b (s .nodes) r → (t : ℕ) → t < sheet-of b .fold → getD (r .counts) t 0 + r .turns < 2 ^ 32
+  slot-fits r l t h = omega (arith, l .counts-so t h, l .turns-so, rest-le b (s .nodes) t, rounds-le (s .nodes), few-nodes b s f)
 
   -- the largest rest and the whole rounds are the register figure, which fits two bytes
   pub registers-so : (r : Live) → LiveOf b (s .nodes) r → (largest (sheet-of b .fold) (λ t. getD (r .counts) t 0) + r .turns ≡ registers (sheet-of b) (start (net (sheet-of b))))

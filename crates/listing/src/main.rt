@@ -1,10 +1,10 @@
-// Reads a folding sheet on standard input and prints its plan, the loop that refuses it, or the number of its refusal. What it prints is
-// what `prints::sheet_text` leaves, and is held to the file stdout.
+// Reads a folding sheet on standard input and prints its plan, or why there is none. What it prints is what `listings::listing`
+// leaves, and is held to the file stdout.
 use libc::STDIN_FILENO;
 use libc::STDOUT_FILENO;
+use listings::listing;
 use plans::Plan;
-use prints::head;
-use prints::sheet_text;
+use scripts::reading::part;
 use sheets::Sheet;
 use text::Texted;
 
@@ -21,13 +21,17 @@ const PLAN: usize = Plan::HEADER
     + Plan::NODE * Sheet::MOST_NODES
     + Plan::SWITCH * Sheet::MOST_WIRES;
 
+fn print(text: &[u8], answer: Texted) {
+    if let Texted::Done(n) = answer {
+        io::write_all(STDOUT_FILENO, part(text, 0, n));
+    }
+}
+
 fn main() {
     let mut sheet = [0u8; SHEET];
     let mut plan = [0u8; PLAN];
     let mut out = [0u8; Texted::LONGEST];
     let n = io::read_full(STDIN_FILENO, &mut sheet);
-    let answer = sheet_text(head(&sheet, n), &mut plan, &mut out);
-    if let Texted::Done(size) = answer {
-        io::write_all(STDOUT_FILENO, head(&out, size));
-    }
+    let answer = listing(&sheet[..n], &mut plan, &mut out);
+    print(&out, answer);
 }

@@ -52,9 +52,74 @@ pub enum Needed {
     Figures,
 }
 
+impl Cleared {
+    // 01's number.
+    pub fn number(self) -> u32
+        ensures { λ r. ⌜ r ≡ cleared-number self ⌝ }
+    {
+        match self {
+            Self::Done => 0,
+            Self::Length => 1,
+            Self::Mark => 2,
+            Self::Range => 3,
+            Self::Clash => 4,
+            Self::Unfed => 5,
+            Self::Short => 7,
+            Self::Figures => 9,
+        }
+    }
+}
+
 impl Stepped {
     // The last cycle number, from which t does not rise.
     pub const LAST_COUNT: u32 = 4294967295;
+
+    pub fn number(self) -> u32
+        ensures { λ r. ⌜ r ≡ stepped-number self ⌝ }
+    {
+        match self {
+            Self::Done => 0,
+            Self::Length => 1,
+            Self::Mark => 2,
+            Self::Range => 3,
+            Self::Clash => 4,
+            Self::Unfed => 5,
+            Self::Short => 7,
+            Self::Late => 8,
+            Self::Figures => 9,
+        }
+    }
+}
+
+impl Needed {
+    pub fn number(self) -> u32
+        ensures { λ r. ⌜ r ≡ needed-number self ⌝ }
+    {
+        match self {
+            Self::Words(_) => 0,
+            Self::Length => 1,
+            Self::Mark => 2,
+            Self::Range => 3,
+            Self::Clash => 4,
+            Self::Unfed => 5,
+            Self::Figures => 9,
+        }
+    }
+
+    // The words, 0 with a refusal.
+    pub fn words(self) -> u64
+        ensures { λ r. ⌜ r ≡ needed-words self ⌝ }
+    {
+        match self {
+            Self::Words(n) => n as u64,
+            Self::Length => 0,
+            Self::Mark => 0,
+            Self::Range => 0,
+            Self::Clash => 0,
+            Self::Unfed => 0,
+            Self::Figures => 0,
+        }
+    }
 }
 
 fn not_cleared(why: Reason) -> Cleared
@@ -146,7 +211,7 @@ fn step_judged(
     }
     let words = results(plan, p, lines, memory, channels);
     leave(plan, p, lines, memory, out);
-    advance(plan, p, lines, memory, words);
+    advance(plan, p, lines, memory, &words[..]);
     Stepped::Done
 }
 

@@ -11,3 +11,4 @@ pub mod NetLaws
 pub mod AnswerLaws
 pub mod LoopLaws
 pub mod OneResult
+pub mod FigureLaws

@@ -1,6 +1,6 @@
 -- The net that the rounds and the loop's search read in the bytes is the sheet's, and what they answer is said of it. Assumes nothing.
 use mathlib.Core.Path.{_≡_, refl, sym, ap, _∙_}
-use mathlib.Core.Bool.{Bool, true}
+use mathlib.Core.Bool.{true}
 use mathlib.Core.List.{List}
 use Prim.Native.Nat.{ℕ, _<_}
 use native.Mathlib.Omega.{arith}
@@ -19,8 +19,9 @@ use Rattle.folding.proofs.AlikeLaws.{Alike, foldable-cong, chain-cong, starts-c
 use Rattle.rounds.specs.declared.Retimed.{Retimed}
 use Rattle.rounds.specs.Rounds.{bytes-net, Wired, Moderate, Timed}
 use Rattle.rounds.proofs.SheetNet.{sheet-alike, sheet-wired, sheet-moderate}
-use Rattle.waits.specs.Fine.{Fine, Started}
+use Rattle.waits.specs.Fine.{Fine}
 use Rattle.waits.proofs.FineLaws.{passed-so, nodes-so}
+use Rattle.planner.specs.Laying.{TimedSheet}
 
 module _ (b : List ℕ) (s : Head.Sheet) (f : Fine b s) (bounds : List Iterations) (are : (e : ℕ) → e < s .wires → iterations-at bounds e ≡ bound (sheet-of b) e)
     (at : ℕ) (there : at ≡ wire-run sheet-format (s .units) (s .nodes) (s .wires) .at) where
@@ -45,21 +46,17 @@ module _ (b : List ℕ) (s : Head.Sheet) (f : Fine b s) (bounds : List Iteration
   pub here-folds : foldable here ≡ foldable (net (sheet-of b))
   here-folds = foldable-cong here (net (sheet-of b)) here-alike
 
-  module _ (r : Retimed) (timed : Timed here r) where
-    pub settled-folds : (t : Bool) → r .settled ≡ t → foldable (net (sheet-of b)) ≡ t
-    settled-folds t e = sym here-folds ∙ sym (timed .settled) ∙ e
-
-    module _ (e : r .settled ≡ true) where
-      folds : foldable here ≡ true
-      folds = sym (timed .settled) ∙ e
-
-      pub timed-chain : r .rounds ≡ chain (net (sheet-of b))
-      timed-chain = timed .rounds folds ∙ chain-cong here (net (sheet-of b)) here-alike
-
-      pub timed-starts : Started b (r .starts)
-      timed-starts = record {
-        folds = settled-folds true e;
-        starts-so = λ u h.
-            timed .starts folds u (omega (arith, nodes-so b s f))
-            ∙ ap (λ (l : List ℕ). pos (getD l u 0)) (starts-cong here (net (sheet-of b)) here-alike);
+  -- what the rounds over the bytes come to, of the sheet
+  pub timed-sheet : (r : Retimed) → Timed here r → TimedSheet b r
+  timed-sheet r timed =
+      let folds : r .settled ≡ true → foldable here ≡ true = λ e. sym (timed .settled) ∙ e in
+      record {
+        settled = timed .settled ∙ here-folds;
+        rounds = λ e. timed .rounds (folds e) ∙ chain-cong here (net (sheet-of b)) here-alike;
+        started = λ e. record {
+          folds = sym here-folds ∙ folds e;
+          starts-so = λ u h.
+              timed .starts (folds e) u (omega (arith, nodes-so b s f))
+              ∙ ap (λ (l : List ℕ). pos (getD l u 0)) (starts-cong here (net (sheet-of b)) here-alike);
+        };
       }

@@ -1,13 +1,23 @@
--- The bytes of the first records of each sort in the plan of a sheet. Assumes nothing.
+-- What is known of a sheet's retiming, and the bytes of the first records of each sort in its plan. Assumes nothing.
+use mathlib.Core.Path.{_≡_}
+use mathlib.Core.Bool.{true}
 use mathlib.Core.List.{List}
 use Prim.Native.Nat.{ℕ}
 use Rattle.words.specs.Loops.{tab}
 use Rattle.sheets.specs.Sheet.{Sheet, node-of, wire-of, sheet-of}
-use Rattle.folding.specs.Walks.{start}
+use Rattle.folding.specs.Walks.{start, foldable, chain}
 use Rattle.folding.specs.Folding.{net}
+use Rattle.rounds.specs.declared.Retimed.{Retimed}
+use Rattle.waits.specs.Fine.{Started}
 use Rattle.plans.specs.declared.Joint.{Joint}
 use Rattle.plans.specs.Plan.{unit-bytes, node-bytes, switch-bytes, concat}
 use Rattle.planner.specs.PlanOf.{plan-unit, plan-node, plan-switch}
+
+-- whether the sheet folds, and where it does its chain and its starts
+pub record TimedSheet (b : List ℕ) (r : Retimed) : Type 0 where
+  pub settled : r .settled ≡ foldable (net (sheet-of b))
+  pub rounds : r .settled ≡ true → r .rounds ≡ chain (net (sheet-of b))
+  pub started : r .settled ≡ true → Started b (r .starts)
 
 -- what wire e's switch joins
 abbrev pub joint-of : Sheet → ℕ → Joint

@@ -5,3 +5,4 @@ pub mod Folds
 pub mod Planning
 pub mod Laying
 pub mod Calls
+pub mod Figures

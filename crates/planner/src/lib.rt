@@ -13,6 +13,7 @@ ghost use Rattle.folding.specs.Folding.{net, bound};
 ghost use Rattle.plans.specs.Plan.{plan-bytes, loop-bytes, loop-length};
 ghost use Rattle.waits.specs.Fine.{Fine, Started};
 ghost use Rattle.planner.specs.PlanOf.{plan-of};
+ghost use Rattle.planner.specs.Laying.{TimedSheet};
 ghost use Rattle.planner.specs.Planning.{plan-length, LoopShown, Planning};
 ghost use Rattle.planner.specs.Calls.{planned-number, planned-length};
 use crate::laying::write_nodes;
@@ -22,6 +23,7 @@ use lifetimes::registers;
 use loops::find_loop;
 use plans::Plan;
 use records::reading::Reason;
+use rounds::Retimed;
 use rounds::retime;
 use sheets::Sheet;
 use sheets::judging::SheetRead;
@@ -34,6 +36,7 @@ use words::time::Iterations;
 use writing::write_header;
 use writing::write_loop_wire;
 
+pub mod figures;
 pub mod laying;
 
 // What the planner answers: a case for each of the numbers 0 to 7, with the length where it has one.
@@ -46,6 +49,40 @@ pub enum Planned {
     Unfed,
     Unfoldable(usize),
     Short(usize),
+}
+
+impl Planned {
+    // 01's number.
+    pub fn number(self) -> u32
+        ensures { λ r. ⌜ r ≡ planned-number self ⌝ }
+    {
+        match self {
+            Self::Done(_) => 0,
+            Self::Length => 1,
+            Self::Mark => 2,
+            Self::Range => 3,
+            Self::Clash => 4,
+            Self::Unfed => 5,
+            Self::Unfoldable(_) => 6,
+            Self::Short(_) => 7,
+        }
+    }
+
+    // 01's length.
+    pub fn length(self) -> u64
+        ensures { λ r. ⌜ r ≡ planned-length self ⌝ }
+    {
+        match self {
+            Self::Done(n) => n as u64,
+            Self::Length => 0,
+            Self::Mark => 0,
+            Self::Range => 0,
+            Self::Clash => 0,
+            Self::Unfed => 0,
+            Self::Unfoldable(n) => n as u64,
+            Self::Short(n) => n as u64,
+        }
+    }
 }
 
 // A sheet's fault; it is never one of a plan's figures.
@@ -127,6 +164,16 @@ fn show_loop(
     Plan::LOOP * found.count
 }
 
+// The latest retiming of a sheet without fault.
+fn retime_sheet(b: &[u8], sheet: Sheet, bounds: [Iterations; Sheet::MOST_WIRES]) -> Retimed
+    requires { ⌜ Fine (now b) sheet ⌝ }
+    requires { ⌜ ((e : ℕ) → e < sheet .wires → iterations-at bounds e ≡ bound (sheet-of (now b)) e) ⌝ }
+    ensures { λ r. ⌜ TimedSheet (now (b .entry)) r ⌝ }
+{
+    let at = sheet.wire_run().at;
+    retime(b, at, sheet.wires as usize, sheet.nodes as usize, bounds)
+}
+
 // A sheet without fault: its plan where there is room for one and the sheet folds.
 fn plan_judged(
     b: &[u8],
@@ -143,8 +190,7 @@ fn plan_judged(
         return Planned::Short(size);
     }
     let bounds = waits::bounds(b, sheet, made);
-    let at = sheet.wire_run().at;
-    let timed = retime(b, at, sheet.wires as usize, sheet.nodes as usize, bounds);
+    let timed = retime_sheet(b, sheet, bounds);
     if !timed.settled {
         return Planned::Unfoldable(show_loop(b, sheet, bounds, out));
     }

@@ -31,8 +31,8 @@ impl Input {
 
 // The masks of the inputs fed, and whether one is fed twice.
 pub struct Fed {
-    pub twice: bool,
     pub masks: [u32; Fed::MASKS],
+    pub twice: bool,
 }
 
 impl Fed {

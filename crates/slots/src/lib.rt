@@ -20,8 +20,8 @@ pub mod feeding;
 
 // The masks of the units' occupied slots, and whether two nodes clash.
 pub struct Slots {
-    pub clash: bool,
     pub occupied: [u32; Header::MOST_UNITS],
+    pub clash: bool,
 }
 
 // Whether a port's channel is taken.

@@ -8,21 +8,21 @@ use lib.Dec.{eqb}
 use lib.ListN.{length, set, length-set, getD-replicate}
 use borrow.Author.Tests.{eq-eqb, ne-eqb}
 use Rattle.plans.specs.Heads.{joint-at}
-use Rattle.cycle.proofs.PartLaws.{gathered-in, gathered-past, joint-so}
+use Rattle.cycle.proofs.PartLaws.{gathered-in, gathered-past, source-begins, joint-so}
 use Rattle.plans.specs.Plan.{plan-read}
 use Rattle.cycle.specs.Taken.{last-of, Gathered, in-slot, input-place, tapped}
 use Rattle.plans.proofs.WholeLaws.{switch-inside}
-use Rattle.cycle.proofs.TakenLaws.{whole-taken, few-wires}
+use Rattle.cycle.proofs.TakenLaws.{whole-taken, few-units, few-wires}
 use borrow.Author.Needs.{needs}
 use Rattle.cycle.proofs.inputs_in.Statement.{statement}
 use Rattle.cycle.proofs.inputs_in.Tie as tie
 
 abbrev Inv-loop : tie.InvT-loop
-Inv-loop plan p lines memory slot wires words₀ e₀ words e =
+Inv-loop plan p memory slot lines wires words₀ e₀ words e =
     (e ≤ p .wires) × (length words ≡ 16) × Gathered e (in-slot (plan-read plan) slot) (input-place (plan-read plan)) (tapped (plan-read plan) memory) 16 words
 
 abbrev μ-loop : tie.MeasureT-loop
-μ-loop plan p lines memory slot wires words₀ e₀ words e = p .wires - e
+μ-loop plan p memory slot lines wires words₀ e₀ words e = p .wires - e
 
 cast-wires : tie.Need-cast-wires Inv-loop μ-loop
 cast-wires c = search needs
@@ -53,18 +53,33 @@ cast-k-2 c = search needs
 add-k : tie.Need-add-k Inv-loop μ-loop
 add-k c = search needs
 
+source-of-requires : tie.Need-source-of-requires Inv-loop μ-loop
+source-of-requires c κs = search needs
+
+mul-from : tie.Need-mul-from Inv-loop μ-loop
+mul-from c = search needs
+
+element-copy-out-from : tie.Need-element-copy-out-from Inv-loop μ-loop
+element-copy-out-from c =
+    let s = c .before .before .before .before .before .before .before .before .before .before .before .before in
+    omega (arith, c .source-of .ensures .1, few-units (s .args .plan .now) (s .args .p) (s .pre .taken))
+
 tapped-requires : tie.Need-tapped-requires Inv-loop μ-loop
-tapped-requires c κs = search needs
+tapped-requires c κs =
+    let s = c .before .before .before .before .before .before .before .before .before .before .before .before .before in
+    let at-e = c .before .before .before .before .before .before .before .before in
+    let source = c .before .source-of in
+    (s .pre .taken, (source-begins (s .args .plan .now) (s .args .p) (s .pre .taken) (s .args .t3) (s .pre .lines-so) (at-e .before .loop .e) (source .result) (at-e .loop-test .taken) (source .ensures .0), (at-e .loop-test .taken, s .pre .room)))
 
 mul-words : tie.Need-mul-words Inv-loop μ-loop
 mul-words c = search needs
 
 array-write-words : tie.Need-array-write-words Inv-loop μ-loop
 array-write-words c =
-    let s = c .before .before .before .before .before .before .before .before .before .before .before .before in
-    let at-e = c .before .before .before .before .before .before .before in
-    let j = joint-so (s .args .plan .now) (s .args .p) (s .pre .taken) (at-e .before .loop .e) (at-e .loop-test .taken) (c .before .before .before .before .before .joint-at .result)
-    (c .before .before .before .before .before .joint-at .ensures ∙ ap (joint-at (s .args .plan .now)) (c .before .before .before .before .before .before .switch-place .ensures)) in
+    let s = c .before .before .before .before .before .before .before .before .before .before .before .before .before .before in
+    let at-e = c .before .before .before .before .before .before .before .before .before in
+    let j = joint-so (s .args .plan .now) (s .args .p) (s .pre .taken) (at-e .before .loop .e) (at-e .loop-test .taken) (c .before .before .before .before .before .before .before .joint-at .result)
+    (c .before .before .before .before .before .before .before .joint-at .ensures ∙ ap (joint-at (s .args .plan .now)) (c .before .before .before .before .before .before .before .before .switch-place .ensures)) in
     omega (arith, j .1, j .2)
 
 add-e : tie.Need-add-e Inv-loop μ-loop
@@ -85,8 +100,8 @@ loop-again c =
     ⊎-elim
     (λ w.
     let here : in-slot pl (s .args .slot) (l .e) ≡ true = eq-eqb _ _ (sym (j .0) ∙ w .0 .taken) in
-    let next = gathered-in (in-slot pl (s .args .slot)) (input-place pl) reads 16 (l .e) (l .words) (l .inv .2) (l .inv .1) here (j .2) (w .3 .result) (w .3 .ensures) in
-    let is = w .4 ∙ ap (λ (k : ℕ). set (l .words) k (w .3 .result)) (j .1) in
+    let next = gathered-in (in-slot pl (s .args .slot)) (input-place pl) reads 16 (l .e) (l .words) (l .inv .2) (l .inv .1) here (j .2) (w .5 .result) (w .5 .ensures) in
+    let is = w .6 ∙ ap (λ (k : ℕ). set (l .words) k (w .5 .result)) (j .1) in
     (omega arith, ap length is ∙ simp length-set (l .inv .1), subst (Gathered (l .e + 1) (in-slot pl (s .args .slot)) (input-place pl) reads 16) (sym is) next))
     (λ w.
     let past : in-slot pl (s .args .slot) (l .e) ≡ false = ne-eqb _ _ (λ same. w .0 .left (j .0 ∙ same)) in
@@ -115,6 +130,9 @@ inputs-in-spec =
     mul-k
     cast-k-2
     add-k
+    source-of-requires
+    mul-from
+    element-copy-out-from
     tapped-requires
     mul-words
     array-write-words

@@ -1,7 +1,11 @@
 -- `cycle::place_of` meets its contract: what it read of the plan makes the place, which lies in the memory. Assumes nothing.
+use Prim.Native.Nat.{_+_, _<_}
+use mathlib.Core.Path.{_≡_}
 use native.Mathlib.Omega.{arith}
 use Rattle.words.proofs.Ints.{from-pos}
-use Rattle.cycle.proofs.TakenLaws.{few-units}
+use Rattle.plans.specs.Plan.{plan-read}
+use Rattle.cycle.specs.Cycle.{size}
+use Rattle.cycle.specs.Taken.{tapped-place}
 use Rattle.cycle.proofs.PartLaws.{place-read}
 use borrow.Author.Needs.{needs}
 use Rattle.cycle.proofs.place_of.Statement.{statement}
@@ -19,28 +23,21 @@ tap-of-requires c κs = search needs
 place-requires : tie.Need-place-requires
 place-requires c κs = (from-pos _ (c .tap-of .ensures), c .before .depth-of .ensures .1)
 
-mul-from : tie.Need-mul-from
-mul-from c = search needs
-
-element-copy-out-from : tie.Need-element-copy-out-from
-element-copy-out-from c =
+-- what it read
+read : (c : tie.After-place) →
     let s = c .before .before .before .before .before in
-    omega (arith, c .before .before .before .source-of .ensures .1, few-units (s .args .plan .now) (s .args .p) (s .pre .0))
+    let at = s .args .from + c .place .result in (at ≡ tapped-place (plan-read (s .args .plan .now)) (s .args .e)) × (at < size (plan-read (s .args .plan .now)))
+read c =
+    let s = c .before .before .before .before .before in
+    place-read (s .args .plan .now) (s .args .p) (s .pre .0) (s .args .from) (s .args .e) (s .pre .1 .0) (s .pre .1 .1 .0)
+    (c .before .before .before .source-of .result) (c .before .before .depth-of .result) (c .before .tap-of .result .0) (c .place .result)
+    (c .before .before .before .source-of .ensures .0) (c .before .before .depth-of .ensures .0) (c .before .tap-of .ensures) (c .place .ensures)
 
 add-result : tie.Need-add-result
-add-result c =
-    let s = c .before .before .before .before .before .before in
-    let inside = place-read (s .args .plan .now) (s .args .p) (s .pre .0) (s .args .t3) (s .pre .1 .0) (s .args .e) (s .pre .1 .1)
-    (c .before .before .before .before .source-of .result) (c .before .before .before .depth-of .result) (c .before .before .tap-of .result .0) (c .before .place .result)
-    (c .before .before .before .before .source-of .ensures .0) (c .before .before .before .depth-of .ensures .0) (c .before .before .tap-of .ensures) (c .before .place .ensures) .1 in
-    omega (arith, inside, s .pre .1 .0 .size-is)
+add-result c = omega (arith, read c .1, c .before .before .before .before .before .pre .1 .1 .1)
 
 returns : tie.Need-returns
-returns c =
-    let s = c .before .before .before .before .before .before in
-    place-read (s .args .plan .now) (s .args .p) (s .pre .0) (s .args .t3) (s .pre .1 .0) (s .args .e) (s .pre .1 .1)
-    (c .before .before .before .before .source-of .result) (c .before .before .before .depth-of .result) (c .before .before .tap-of .result .0) (c .before .place .result)
-    (c .before .before .before .before .source-of .ensures .0) (c .before .before .before .depth-of .ensures .0) (c .before .before .tap-of .ensures) (c .before .place .ensures)
+returns c = read c
 
 pub place-of-spec : {M : Type 1} → statement M
 place-of-spec =
@@ -50,7 +47,5 @@ place-of-spec =
     depth-of-requires
     tap-of-requires
     place-requires
-    mul-from
-    element-copy-out-from
     add-result
     returns)

@@ -1,5 +1,5 @@
 -- `judging::judge_inputs` meets its contract: inputs by their masks, then the figures. Assumes nothing.
-use mathlib.Core.Path.{_≡_, refl, sym, ap, _∙_}
+use mathlib.Core.Path.{_≡_, refl, sym, ap}
 use mathlib.Core.Bool.{Bool}
 use native.Mathlib.Omega.{arith}
 use borrow.Author.Tests.{not-true, not-false}
@@ -17,15 +17,11 @@ use borrow.Author.Needs.{needs}
 use Rattle.judging.proofs.judge_inputs.Statement.{statement}
 use Rattle.judging.proofs.judge_inputs.Tie as tie
 
-fed-of-requires : tie.Need-fed-of-requires
-fed-of-requires c κs = search needs
-
 returns : tie.Need-returns
 unfolding reason-of
 returns c =
     let s = c .before .before .before in
-    let fed = c .before .fed-of in
-    rw (fed-twice _ _ (s .pre .0) (s .args .t3) (s .pre .1) (fed .result) (fed .ensures) (c .if1 .taken)) refl
+    rw (fed-twice _ _ (s .pre .0) (s .args .t3) (s .pre .1 .0) (s .args .joined .fed) (s .pre .1 .1 .fed-so) (c .if1 .taken)) refl
 
 unit-run-requires : tie.Need-unit-run-requires
 unit-run-requires c κs = search needs
@@ -41,25 +37,23 @@ unfolding reason-of
 returns-2 c =
     let s = c .before .before .before .before .before .before .before in
     let u = c .before in
-    let fed = c .before .before .before .before .before .fed-of in
-    rw (fed-missing _ _ (s .pre .0) (s .args .t3) (s .pre .1) (fed .result) (fed .ensures) (u .before .unit-run .result) (u .before .unit-run .ensures) (u .units-fed .result) (u .units-fed .ensures) (not-true _ (c .if2 .taken))) refl
+    rw (fed-missing _ _ (s .pre .0) (s .args .t3) (s .pre .1 .0) (s .args .joined .fed) (s .pre .1 .1 .fed-so) (u .before .unit-run .result) (u .before .unit-run .ensures) (u .units-fed .result) (u .units-fed .ensures) (not-true _ (c .if2 .taken))) refl
 
 slice-aggregate-figures-right : tie.Need-slice-aggregate-figures-right
 slice-aggregate-figures-right c = search needs
 
 figures-right-requires : tie.Need-figures-right-requires
-figures-right-requires c κs = search needs
+figures-right-requires c κs = let s = c .before .before .before .before .before .before .before .before .before in (s .pre .0, (s .pre .1 .1 .taps-so, s .pre .1 .0))
 
-all-fed : (c : tie.After-figures-right) → fed-fault (plan-read (c .before .before .before .before .before .before .before .before .before .args .b .now)) ≡ 0
+all-fed : (c : tie.After-figures-right) → fed-fault (plan-read (c .before .before .before .before .before .before .before .before .before .before .args .b .now)) ≡ 0
 all-fed c =
-    let s = c .before .before .before .before .before .before .before .before .before in
-    let e = c .before .before in
-    let u = c .before .before .before in
-    let fed = c .before .before .before .before .before .before .before .fed-of in
-    fed-all _ _ (s .pre .0) (s .args .t3) (s .pre .1) (fed .result) (fed .ensures) (u .before .unit-run .result) (u .before .unit-run .ensures) (u .units-fed .result) (u .units-fed .ensures)
+    let s = c .before .before .before .before .before .before .before .before .before .before in
+    let e = c .before .before .before in
+    let u = c .before .before .before .before in
+    fed-all _ _ (s .pre .0) (s .args .t3) (s .pre .1 .0) (s .args .joined .fed) (s .pre .1 .1 .fed-so) (u .before .unit-run .result) (u .before .unit-run .ensures) (u .units-fed .result) (u .units-fed .ensures)
     (u .before .before .before .if1 .left) (not-false _ (e .if2 .left))
 
-figures-are : (c : tie.After-figures-right) → figures-fault (plan-read (c .before .before .before .before .before .before .before .before .before .args .b .now)) ≡ unless (c .figures-right .result) 9
+figures-are : (c : tie.After-figures-right) → figures-fault (plan-read (c .before .before .before .before .before .before .before .before .before .before .args .b .now)) ≡ unless (c .figures-right .result) 9
 unfolding figures-fault
 figures-are c = ap (λ (t : Bool). unless t 9) (sym (c .figures-right .ensures))
 
@@ -74,7 +68,6 @@ pub judge-inputs-spec : {M : Type 1} → statement M
 judge-inputs-spec =
     tie.close
     (tie.spec
-    fed-of-requires
     returns
     unit-run-requires
     units-fed-requires

@@ -1,6 +1,6 @@
 -- `judging::judge_rest` meets its contract: the first part with a fault decides. Assumes nothing.
-use mathlib.Core.Path.{_≡_, refl, sym, ap, _∙_}
-use mathlib.Core.Bool.{Bool, not}
+use mathlib.Core.Path.{_≡_, refl, sym, _∙_}
+use mathlib.Core.Bool.{not}
 use Rattle.words.specs.Loops.{unless}
 use Rattle.records.specs.declared.reading.Judged.the-variants as J
 use Rattle.records.specs.Answers.{reason-of}
@@ -16,14 +16,14 @@ use Rattle.judging.proofs.judge_rest.Tie as tie
 slots-of-requires : tie.Need-slots-of-requires
 slots-of-requires c κs = search needs
 
-slice-aggregate-judge-switches : tie.Need-slice-aggregate-judge-switches
-slice-aggregate-judge-switches c = search needs
+slice-aggregate-join-switches : tie.Need-slice-aggregate-join-switches
+slice-aggregate-join-switches c = search needs
 
 occupied-by : (c : tie.After-slots-of) → Occupied (plan-read (c .before .before .args .b .now)) (c .slots-of .result .occupied)
 occupied-by c = slots-occupied _ _ (c .before .before .pre .whole) (c .slots-of .result) (c .slots-of .ensures) (search needs)
 
-judge-switches-requires : tie.Need-judge-switches-requires
-judge-switches-requires c κs = (c .before .before .before .before .pre, occupied-by (c .before .before))
+join-switches-requires : tie.Need-join-switches-requires
+join-switches-requires c κs = (c .before .before .before .before .pre, occupied-by (c .before .before))
 
 enum-told : tie.Need-enum-told
 enum-told c = search needs
@@ -36,11 +36,11 @@ returns c =
     let why = c .enum-told2 .given in
     let p = c .before .before in
     let b = c .before .before .before .before .before .before .before .args .b .now in
-    why .1 ∙ sym (refused-first J.Passed J.Refused (switches-fault b) (nodes-fault (plan-read b)) (why .0 .0) (sym (p .judge-switches .ensures) ∙ why .1))
+    why .1 ∙ sym (refused-first J.Passed J.Refused (switches-fault b) (nodes-fault (plan-read b)) (why .0 .0) (sym (p .join-switches .ensures .judged-is) ∙ why .1))
 
 -- the switches have no fault
 clear : (c : tie.After-enum-told) → switches-fault (c .before .before .before .before .before .before .before .args .b .now) ≡ 0
-clear c = passed-none _ (sym (c .before .before .judge-switches .ensures) ∙ c .enum-told .given .1)
+clear c = passed-none _ (sym (c .before .before .join-switches .ensures .judged-is) ∙ c .enum-told .given .1)
 
 clash-is : (c : tie.After-enum-told) → clash-fault (plan-read (c .before .before .before .before .before .before .before .args .b .now)) ≡ unless (not (c .before .before .before .before .before .slots-of .result .clash)) 4
 clash-is c = let s = c .before .before .before .before .before .before .before in clash-by-masks _ _ (s .pre .whole) (c .before .before .before .before .before .slots-of .result) (c .before .before .before .before .before .slots-of .ensures)
@@ -50,7 +50,7 @@ unfolding reason-of
 returns-2 c = rw (clear (c .before), clash-is (c .before), c .if1 .taken) refl
 
 judge-inputs-requires : tie.Need-judge-inputs-requires
-judge-inputs-requires c κs = let s = c .before .before .before .before .before .before .before .before in (held _ _ (s .pre) (clear (c .before)), occupied-by (c .before .before .before .before .before .before))
+judge-inputs-requires c κs = let s = c .before .before .before .before .before .before .before .before in (held _ _ (s .pre) (clear (c .before)), (occupied-by (c .before .before .before .before .before .before), c .before .before .before .join-switches .ensures .joins (c .before .enum-told .given .1)))
 
 returns-3 : tie.Need-returns-3
 returns-3 c = rw (clear (c .before .before), clash-is (c .before .before), c .before .if1 .left) (c .judge-inputs .ensures)
@@ -60,8 +60,8 @@ judge-rest-spec =
     tie.close
     (tie.spec
     slots-of-requires
-    slice-aggregate-judge-switches
-    judge-switches-requires
+    slice-aggregate-join-switches
+    join-switches-requires
     enum-told
     enum-told-2
     returns

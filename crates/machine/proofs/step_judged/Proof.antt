@@ -1,5 +1,6 @@
 -- `machine::step_judged` meets its contract: room, then t, then the results, the leaving words and the move. Assumes nothing.
 use Prim.Native.Nat.{_<_, _≤_}
+use mathlib.Core.Path.{_≡_}
 use native.Mathlib.Omega.{arith}
 use lib.ListN.{length}
 use Rattle.records.specs.Units.{channels}
@@ -8,7 +9,7 @@ use Rattle.plans.specs.Plan.{plan-read}
 use Rattle.plans.proofs.WholeLaws.{units-so}
 use Rattle.cycle.specs.Cycle.{size}
 use Rattle.cycle.specs.Taken.{Ready}
-use Rattle.cycle.proofs.TakenLaws.{whole-taken}
+use Rattle.cycle.proofs.TakenLaws.{whole-taken, few-units}
 use Rattle.machine.specs.Stepping.{last-count}
 use Rattle.machine.proofs.CallLaws.{short-memory, short-channels, short-output, too-late, step-done}
 use borrow.Author.Needs.{needs}
@@ -58,8 +59,18 @@ results-requires c κs = (ready (c .before), room (c .before .before .before) .1
 leave-requires : tie.Need-leave-requires
 leave-requires c κs = (ready (c .before .before .before .before), c .before .before .before .before .before .before .if3 .left)
 
+-- a word for each of eight units
+eight : (c : tie.After-results) → length (c .results .result) ≡ 8
+eight c = search needs
+
+slice-aggregate-advance : tie.Need-slice-aggregate-advance
+slice-aggregate-advance c = search needs
+
 advance-requires : tie.Need-advance-requires
-advance-requires c κs = (ready (c .before .before .before .before .before .before .before .before), omega (arith, in-time (c .before .before .before .before .before .before .before .before)))
+advance-requires c κs =
+    let e = c .before .before .before .before .before .before .before .before .before in
+    let s = e .before .before .before .before .before .before .before .before .before .before .before .before in
+    (ready e, (omega (arith, in-time e), omega (arith, eight (c .before .before .before .before .before .before .before), few-units (s .args .plan .now) (s .args .p) (s .pre))))
 
 same-length : tie.Need-same-length
 same-length c = search needs
@@ -69,10 +80,10 @@ same-length-2 c = search needs
 
 returns-5 : tie.Need-returns-5
 returns-5 c =
-    let e = c .before .before .before .before .before .before .before .before .before .before .before in
-    let s = c .before .before .before .before .before .before .before .before .before .before .before .before .before .before .before .before .before .before .before .before .before .before .before in
+    let e = c .before .before .before .before .before .before .before .before .before .before .before .before in
+    let s = c .before .before .before .before .before .before .before .before .before .before .before .before .before .before .before .before .before .before .before .before .before .before .before .before in
     let r = room (e .before .before) in
-    step-done _ _ _ _ _ (s .pre) (r .0) (r .1) (r .2) (in-time e) (c .before .before .before .before .before .before .before .before .before .results .result) _ _ (c .before .before .before .before .before .before .before .before .before .results .ensures) (c .before .before .advance .ensures) (c .before .before .before .before .before .before .leave .ensures)
+    step-done _ _ _ _ _ (s .pre) (r .0) (r .1) (r .2) (in-time e) (c .before .before .before .before .before .before .before .before .before .before .results .result) _ _ (c .before .before .before .before .before .before .before .before .before .before .results .ensures) (c .before .before .advance .ensures) (c .before .before .before .before .before .before .before .leave .ensures)
 
 pub step-judged-spec : {M : Type 1} → statement M
 step-judged-spec =
@@ -87,6 +98,7 @@ step-judged-spec =
     returns-4
     results-requires
     leave-requires
+    slice-aggregate-advance
     advance-requires
     same-length
     same-length-2

@@ -1,13 +1,10 @@
 -- `planner::plan_judged` meets its contract: a short buffer, then a loop, then the plan. Assumes nothing.
-use mathlib.Core.Path.{_≡_, sym, ap, _∙_}
-use mathlib.Core.Bool.{true, false}
+use mathlib.Core.Path.{_≡_, sym, _∙_}
 use native.Mathlib.Omega.{arith}
 use borrow.Author.Needs.{needs}
 use borrow.Author.Tests.{not-true, not-false}
-use Rattle.records.specs.declared.reading.Run.{Run}
 use Rattle.planner.specs.Planning.{plan-length}
 use Rattle.planner.proofs.WholePlan.{room-so}
-use Rattle.planner.proofs.NetLaws.{here-wired, here-moderate, settled-folds, timed-chain, timed-starts}
 use Rattle.planner.proofs.AnswerLaws.{planning-short, planning-loop, planning-done}
 use Rattle.planner.proofs.plan_judged.Statement.{statement}
 use Rattle.planner.proofs.plan_judged.Tie as tie
@@ -33,59 +30,39 @@ returns c = let s = c .before .before .before .before .before .before in plannin
 bounds-requires : tie.Need-bounds-requires
 bounds-requires c κs = search needs
 
-wire-run-requires : tie.Need-wire-run-requires
-wire-run-requires c κs = search needs
-
-cast-retime : tie.Need-cast-retime
-cast-retime c = search needs
-
-cast-retime-2 : tie.Need-cast-retime-2
-cast-retime-2 c = search needs
-
-retime-requires : tie.Need-retime-requires
-retime-requires c κs =
-    let s = c .before .before .before .before .before .before .before .before .before .before in
-    let there = ap (λ (r : Run). r .at) (c .before .before .wire-run .ensures) in
-    (here-wired (s .args .b .now) (s .args .sheet) (s .pre) (c .before .before .before .bounds .result) (c .before .before .before .bounds .ensures) _ there, here-moderate (s .args .b .now) (s .args .sheet) (s .pre) (c .before .before .before .bounds .result) (c .before .before .before .bounds .ensures) _ there)
+retime-sheet-requires : tie.Need-retime-sheet-requires
+retime-sheet-requires c κs = search needs
 
 show-loop-requires : tie.Need-show-loop-requires
 show-loop-requires c κs =
-    let s = c .before .before .before .before .before .before .before .before .before .before .before .before .before .before in
-    let there = ap (λ (r : Run). r .at) (c .before .before .before .before .before .before .wire-run .ensures) in
-    let bounds = c .before .before .before .before .before .before .before .bounds in
-    let timed = c .before .before .before .retime in
-    (s .pre, (bounds .ensures, (settled-folds (s .args .b .now) (s .args .sheet) (s .pre) (bounds .result) (bounds .ensures) _ there (timed .result) (timed .ensures) false (not-true _ (c .before .if2 .taken)), omega (arith, sized (c .before .before .before .before .before .before .before .before .before), c .before .before .before .before .before .before .before .before .if1 .left))))
+    let timed = c .before .before .before .retime-sheet .ensures in
+    (c .before .before .before .before .before .before .before .before .before .before .before .pre, (c .before .before .before .before .bounds .ensures, (sym (timed .settled) ∙ not-true _ (c .before .if2 .taken), omega (arith, sized (c .before .before .before .before .before .before), c .before .before .before .before .before .if1 .left))))
 
 same-length : tie.Need-same-length
 same-length c = search needs
 
 returns-2 : tie.Need-returns-2
 returns-2 c =
-    let s = c .before .before .before .before .before .before .before .before .before .before .before .before .before .before .before .before .before in
-    let there = ap (λ (r : Run). r .at) (c .before .before .before .before .before .before .before .before .before .wire-run .ensures) in
-    let bounds = c .before .before .before .before .before .before .before .before .before .before .bounds in
-    let timed = c .before .before .before .before .before .before .retime in
-    planning-loop (s .args .b .now) (s .args .out .now) (s .pre .fine) (omega (arith, sized (c .before .before .before .before .before .before .before .before .before .before .before .before), c .before .before .before .before .before .before .before .before .before .before .before .if1 .left)) (settled-folds (s .args .b .now) (s .args .sheet) (s .pre) (bounds .result) (bounds .ensures) _ there (timed .result) (timed .ensures) false (not-true _ (c .before .before .before .before .if2 .taken))) (c .before .before .show-loop .result) _ (c .before .before .show-loop .ensures)
+    let s = c .before .before .before .before .before .before .before .before .before .before .before .before .before .before in
+    let timed = c .before .before .before .before .before .before .retime-sheet .ensures in
+    let shown = c .before .before .show-loop in
+    planning-loop (s .args .b .now) (s .args .out .now) (s .pre .fine) (omega (arith, sized (c .before .before .before .before .before .before .before .before .before), c .before .before .before .before .before .before .before .before .if1 .left)) (sym (timed .settled) ∙ not-true _ (c .before .before .before .before .if2 .taken)) (shown .result) _ (shown .ensures)
 
 write-plan-requires : tie.Need-write-plan-requires
 write-plan-requires c κs =
-    let s = c .before .before .before .before .before .before .before .before .before .before .before .before .before .before .before in
-    let there = ap (λ (r : Run). r .at) (c .before .before .before .before .before .before .before .wire-run .ensures) in
-    let bounds = c .before .before .before .before .before .before .before .before .bounds in
-    let timed = c .before .before .before .before .retime in
-    let settled : timed .result .settled ≡ true = not-false _ (c .before .before .if2 .left) in
-    (s .pre, (timed-starts (s .args .b .now) (s .args .sheet) (s .pre) (bounds .result) (bounds .ensures) _ there (timed .result) (timed .ensures) settled, (timed-chain (s .args .b .now) (s .args .sheet) (s .pre) (bounds .result) (bounds .ensures) _ there (timed .result) (timed .ensures) settled, omega (arith, sized (c .before .before .before .before .before .before .before .before .before .before), c .before .before .before .before .before .before .before .before .before .if1 .left))))
+    let timed = c .before .before .before .before .retime-sheet .ensures in
+    let settled = not-false _ (c .before .before .if2 .left) in
+    (c .before .before .before .before .before .before .before .before .before .before .before .before .pre, (timed .started settled, (timed .rounds settled, omega (arith, sized (c .before .before .before .before .before .before .before), c .before .before .before .before .before .before .if1 .left))))
 
 same-length-2 : tie.Need-same-length-2
 same-length-2 c = search needs
 
 returns-3 : tie.Need-returns-3
 returns-3 c =
-    let s = c .before .before .before .before .before .before .before .before .before .before .before .before .before .before .before .before .before .before in
-    let there = ap (λ (r : Run). r .at) (c .before .before .before .before .before .before .before .before .before .before .wire-run .ensures) in
-    let bounds = c .before .before .before .before .before .before .before .before .before .before .before .bounds in
-    let timed = c .before .before .before .before .before .before .before .retime in
-    planning-done (s .args .b .now) (s .args .out .now) (s .pre .fine) (omega (arith, sized (c .before .before .before .before .before .before .before .before .before .before .before .before .before), c .before .before .before .before .before .before .before .before .before .before .before .before .if1 .left)) (settled-folds (s .args .b .now) (s .args .sheet) (s .pre) (bounds .result) (bounds .ensures) _ there (timed .result) (timed .ensures) true (not-false _ (c .before .before .before .before .before .if2 .left))) (c .before .before .before .before .before .before .before .before .before .before .before .before .before .switch-place .result) (sized (c .before .before .before .before .before .before .before .before .before .before .before .before .before)) _ (c .before .before .write-plan .ensures)
+    let s = c .before .before .before .before .before .before .before .before .before .before .before .before .before .before .before in
+    let timed = c .before .before .before .before .before .before .before .retime-sheet .ensures in
+    let size = c .before .before .before .before .before .before .before .before .before .before in
+    planning-done (s .args .b .now) (s .args .out .now) (s .pre .fine) (omega (arith, sized size, c .before .before .before .before .before .before .before .before .before .if1 .left)) (sym (timed .settled) ∙ not-false _ (c .before .before .before .before .before .if2 .left)) (size .switch-place .result) (sized size) _ (c .before .before .write-plan .ensures)
 
 pub plan-judged-spec : {M : Type 1} → statement M
 plan-judged-spec =
@@ -96,10 +73,7 @@ plan-judged-spec =
     switch-place-requires
     returns
     bounds-requires
-    wire-run-requires
-    cast-retime
-    cast-retime-2
-    retime-requires
+    retime-sheet-requires
     show-loop-requires
     same-length
     returns-2

@@ -1,6 +1,6 @@
 -- `judging::figures::figures_right` meets its contract: the units passed have the right figures. Assumes nothing.
 use mathlib.Core.Path.{_≡_, refl, sym, ap, _∙_}
-use mathlib.Core.Bool.{true, false}
+use mathlib.Core.Bool.{true}
 use Prim.Native.Nat.{ℕ, _-_, _<_, _≤_}
 use native.Mathlib.Omega.{arith}
 use lib.ListN.{length}
@@ -24,9 +24,6 @@ Inv-loop b p occupied taps units q₀ q = (q ≤ p .units) × (every q (unit-rig
 abbrev μ-loop : tie.MeasureT-loop
 μ-loop b p occupied taps units q₀ q = p .units - q
 
-longest-taps-requires : tie.Need-longest-taps-requires Inv-loop μ-loop
-longest-taps-requires c κs = search needs
-
 cast-units : tie.Need-cast-units Inv-loop μ-loop
 cast-units c = search needs
 
@@ -39,7 +36,7 @@ mul-tap c = search needs
 
 few : (c : tie.In-loop Inv-loop μ-loop) → c .before .loop .q < 8
 few c =
-    let s = c .before .before .before .before .before .before in
+    let s = c .before .before .before .before .before in
     omega (arith, c .loop-test .taken, counts-of (s .args .b .now) (s .args .p) (s .pre .0 .front) .units-most, units-so (s .args .b .now) (s .args .p) (s .pre .0 .front .whole), units-read (s .args .b .now))
 
 array-copy-out-tap : tie.Need-array-copy-out-tap Inv-loop μ-loop
@@ -49,20 +46,20 @@ mul-unit-right : tie.Need-mul-unit-right Inv-loop μ-loop
 mul-unit-right c = search needs
 
 shared-slice-read-unit-right : tie.Need-shared-slice-read-unit-right Inv-loop μ-loop
-shared-slice-read-unit-right c = omega (arith, few (c .before .before), c .before .before .before .before .before .before .before .before .pre .1 .eight)
+shared-slice-read-unit-right c = omega (arith, few (c .before .before), c .before .before .before .before .before .before .before .pre .1 .1 .eight)
 
 unit-right-requires : tie.Need-unit-right-requires Inv-loop μ-loop
 unit-right-requires c κs =
-    let s = c .before .before .before .before .before .before .before .before in
+    let s = c .before .before .before .before .before .before .before in
     let l = c .before .before in
-    (s .pre .0 .front .whole, (l .loop-test .taken, figures-of (s .args .b .now) (s .args .p) (s .pre .0) (c .before .before .before .before .before .longest-taps .result) (s .args .occupied .now) (c .before .before .before .before .before .longest-taps .ensures) (s .pre .1) (l .before .loop .q) (l .loop-test .taken)))
+    (s .pre .0 .front .whole, (l .loop-test .taken, figures-of (s .args .b .now) (s .args .p) (s .pre .0) (s .args .t3) (s .args .occupied .now) (s .pre .1 .0) (s .pre .1 .1) (l .before .loop .q) (l .loop-test .taken)))
 
 returns : tie.Need-returns Inv-loop μ-loop
 unfolding figures-right
 returns c =
     let u = c .before in
     let l = c .before .before .before .before in
-    let s = c .before .before .before .before .before .before .before .before .before .before in
+    let s = c .before .before .before .before .before .before .before .before .before in
     sym (every-stop _ (l .before .loop .q) (unit-right (plan-read (s .args .b .now))) (omega (arith, l .loop-test .taken, units-so _ _ (s .pre .0 .front .whole))) (sym (u .unit-right .ensures) ∙ not-true _ (c .if1 .taken)))
 
 add-q : tie.Need-add-q Inv-loop μ-loop
@@ -80,7 +77,7 @@ loop-again c =
 returns-2 : tie.Need-returns-2 Inv-loop μ-loop
 unfolding figures-right
 returns-2 c =
-    let s = c .before .before .before .before .before .before in
+    let s = c .before .before .before .before .before in
     let l = c .before .loop in
     let all : l .q ≡ length (plan-read (s .args .b .now) .units) = omega (arith, l .inv .0, c .loop-test .left, units-so _ _ (s .pre .0 .front .whole)) in
     sym (ap (λ (n : ℕ). every n (unit-right (plan-read (s .args .b .now)))) (sym all) ∙ l .inv .1)
@@ -91,7 +88,6 @@ figures-right-spec =
     (tie.spec
     Inv-loop
     μ-loop
-    longest-taps-requires
     cast-units
     loop-holds
     mul-tap

@@ -1,0 +1,2 @@
+-- What a reader must believe of a sheet's listing.
+pub mod Listing
