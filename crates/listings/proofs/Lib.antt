@@ -1,3 +1,4 @@
 -- Laws.
 pub mod SaidLaws
 pub mod OneResult
+pub mod SheetPrint
