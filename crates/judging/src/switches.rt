@@ -87,6 +87,17 @@ fn switch_judged(got: SwitchRead) -> Judged
     }
 }
 
+// The input that a switch feeds.
+fn input_of(j: Joint) -> Input
+    ensures { λ r. ⌜ r ≡ record { unit = j .unit; slot = j .slot; input = j .input } ⌝ }
+{
+    Input {
+        unit: j.unit,
+        slot: j.slot,
+        input: j.input,
+    }
+}
+
 // The tap of switch e.
 fn tap_of(b: &[u8], p: Plan, e: usize) -> Cycles
     requires { ⌜ Fronted (now b) p ⌝ }
@@ -125,11 +136,7 @@ pub fn join_switches(b: &[u8], p: Plan, occupied: &[u32]) -> Joined
                 judged,
             };
         };
-        let to = Input {
-            unit: j.unit,
-            slot: j.slot,
-            input: j.input,
-        };
+        let to = input_of(j);
         let m = to.mask();
         twice = twice | masks::has_slot(fed[m], to.slot);
         fed[m] = masks::with_slot(fed[m], to.slot);

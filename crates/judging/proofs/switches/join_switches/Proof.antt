@@ -88,14 +88,18 @@ got c =
     let s = c .before .before .before .before .before .before .before .before .before .before .before in
     switch-got (s .args .b .now) (s .args .p) (s .pre .0) (c .before .before .before .before .before .loop .e) (c .before .before .before .before .loop-test .taken) (c .got .given .0 .0) (sym (g .read-switch .ensures) ∙ c .got .given .1)
 
+input-of-requires : tie.Need-input-of-requires Inv-loop μ-loop
+input-of-requires c κs = search needs
+
+-- the input that it feeds has room in the masks
+room : (c : tie.After-input-of Inv-loop μ-loop) → InputMasked (c .input-of .result)
+room c = let g = got (c .before .before) in subst⁻¹ InputMasked (c .input-of .ensures ∙ g .input-is) (g .masked)
+
 mask-below : (c : tie.After-mask Inv-loop μ-loop) → c .mask .result < 16
-mask-below c =
-    let g = got (c .before .before) in
-    let room = subst⁻¹ InputMasked (g .input-is) (g .masked) in
-    omega (arith, c .mask .ensures, room .on-unit, room .one-of)
+mask-below c = let r = room (c .before) in omega (arith, c .mask .ensures, r .on-unit, r .one-of)
 
 mask-requires : tie.Need-mask-requires Inv-loop μ-loop
-mask-requires c κs = let g = got (c .before) in let room = subst⁻¹ InputMasked (g .input-is) (g .masked) in (room .on-unit, room .one-of)
+mask-requires c κs = (room c .on-unit, room c .one-of)
 
 mul-has-slot : tie.Need-mul-has-slot Inv-loop μ-loop
 mul-has-slot c = search needs
@@ -104,7 +108,7 @@ array-read-has-slot : tie.Need-array-read-has-slot Inv-loop μ-loop
 array-read-has-slot c = mask-below c
 
 has-slot-requires : tie.Need-has-slot-requires Inv-loop μ-loop
-has-slot-requires c κs = let g = got (c .before .before) in subst⁻¹ InputMasked (g .input-is) (g .masked) .in-turn
+has-slot-requires c κs = room (c .before) .in-turn
 
 mul-with-slot : tie.Need-mul-with-slot Inv-loop μ-loop
 mul-with-slot c = search needs
@@ -113,7 +117,7 @@ array-read-with-slot : tie.Need-array-read-with-slot Inv-loop μ-loop
 array-read-with-slot c = mask-below (c .before)
 
 with-slot-requires : tie.Need-with-slot-requires Inv-loop μ-loop
-with-slot-requires c κs = let g = got (c .before .before .before) in subst⁻¹ InputMasked (g .input-is) (g .masked) .in-turn
+with-slot-requires c κs = room (c .before .before) .in-turn
 
 mul-fed : tie.Need-mul-fed Inv-loop μ-loop
 mul-fed c = search needs
@@ -128,7 +132,7 @@ mul-longest : tie.Need-mul-longest Inv-loop μ-loop
 mul-longest c = search needs
 
 array-copy-out-longest : tie.Need-array-copy-out-longest Inv-loop μ-loop
-array-copy-out-longest c = got (c .before .before .before .before .before) .few
+array-copy-out-longest c = got (c .before .before .before .before .before .before) .few
 
 tap-of-requires : tie.Need-tap-of-requires Inv-loop μ-loop
 tap-of-requires c κs = search needs
@@ -140,10 +144,10 @@ mul-taps : tie.Need-mul-taps Inv-loop μ-loop
 mul-taps c = search needs
 
 array-set-from-taps : tie.Need-array-set-from-taps Inv-loop μ-loop
-array-set-from-taps c = got (c .before .before .before .before .before .before .before .before) .few
+array-set-from-taps c = got (c .before .before .before .before .before .before .before .before .before) .few
 
 add-e : tie.Need-add-e Inv-loop μ-loop
-add-e c = omega (arith, c .before .before .before .before .before .before .before .before .before .before .before .before .loop-test .taken, c .before .before .before .before .before .before .before .before .before .before .before .before .before .before .before .before .struct-known .given)
+add-e c = omega (arith, c .before .before .before .before .before .before .before .before .before .before .before .before .before .loop-test .taken, c .before .before .before .before .before .before .before .before .before .before .before .before .before .before .before .before .before .struct-known .given)
 
 loop-less : tie.Need-loop-less Inv-loop μ-loop
 loop-less c = search needs
@@ -151,13 +155,14 @@ loop-less c = search needs
 loop-again : tie.Need-loop-again Inv-loop μ-loop
 loop-again c =
     let masks = c .before .before .before .before in
-    let h = masks .before .before .before .before in
+    let to = masks .before .before .before in
+    let h = to .before .before in
     let g = got h in
     let l = h .before .before .before .before .before in
     let s = l .before .before .before .before .before .before in (
       omega (arith, h .before .before .before .before .loop-test .taken),
       first-more _ _ (l .loop .inv .1) (g .faultless),
-      feeding-next _ _ _ _ (l .loop .inv .2) (g .masked) _ (g .input-is) _ (masks .before .before .mask .ensures) _ (masks .before .has-slot .ensures) _ (masks .with-slot .ensures),
+      feeding-next _ _ _ _ (l .loop .inv .2) (g .masked) (to .input-of .result) (to .input-of .ensures ∙ g .input-is) _ (masks .before .before .mask .ensures) _ (masks .before .has-slot .ensures) _ (masks .with-slot .ensures),
       simp length-set (l .loop .inv .3),
       taps-more (plan-read (s .args .b .now)) (l .loop .e) (l .loop .taps) (l .loop .inv .4) (l .loop .inv .3) (h .got .given .0 .0 .source) (g .source-is) (g .few) (c .before .tap-of .result) (c .larger .result)
           (c .before .tap-of .ensures) (c .larger .ensures),
@@ -196,6 +201,7 @@ join-switches-spec =
     enum-told
     switch-judged-requires
     returns
+    input-of-requires
     mask-requires
     mul-has-slot
     array-read-has-slot
