@@ -28,10 +28,10 @@ min-past : (t y : ℤ) → ltZ y t ≡ false → minℤ t y ≡ t
 unfolding minℤ
 min-past t y h = rw (le-leZ t y (ltZ-false y t h)) refl
 
-number-set-same : (l : List Iterations) (w : ℕ) (y : Iterations) → w < length l → number-at (set l w y) w ≡ y .0
+pub number-set-same : (l : List Iterations) (w : ℕ) (y : Iterations) → w < length l → number-at (set l w y) w ≡ y .0
 number-set-same l w y h = ap (λ (i : Iterations). i .0) (getD-set-same l w y (record { 0 = pos 0 }) h)
 
-number-set-other : (l : List Iterations) (w u : ℕ) (y : Iterations) → ¬ (u ≡ w) → number-at (set l w y) u ≡ number-at l u
+pub number-set-other : (l : List Iterations) (w u : ℕ) (y : Iterations) → ¬ (u ≡ w) → number-at (set l w y) u ≡ number-at l u
 number-set-other l w u y h = ap (λ (i : Iterations). i .0) (getD-set-other l w u y (record { 0 = pos 0 }) h)
 
 module _ (g : Net) (d : ℕ → ℤ) where

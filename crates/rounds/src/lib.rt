@@ -88,9 +88,8 @@ pub fn settle(
     requires { ⌜ Moderate (bytes-net (now b) at nodes wires bounds) ⌝ }
     ensures { λ r. ⌜ Settling (bytes-net (now (b .entry)) at nodes wires bounds) r ⌝ }
 {
-    let made = no_totals();
-    let mut former = made;
-    let mut totals = made;
+    let mut former = no_totals();
+    let mut totals = former;
     let mut changed = false;
     let mut k = 0;
     let mut e = 0;

@@ -63,10 +63,10 @@ meets c =
     rw (c .end-at2 .ensures) (omega (arith, f .pre .0 .meets (l .loop .e) (c .before .before .if1 .taken), f .pre .0 .few-nodes))
 
 mul-plus : tie.Need-mul-plus Inv-loop μ-loop
-mul-plus c = search needs
+mul-plus c = omega (arith, meets c)
 
 array-copy-out-plus : tie.Need-array-copy-out-plus Inv-loop μ-loop
-array-copy-out-plus c = search needs
+array-copy-out-plus c = omega (arith, meets c)
 
 mul-plus-2 : tie.Need-mul-plus-2 Inv-loop μ-loop
 mul-plus-2 c = omega (arith, meets (c .before))
