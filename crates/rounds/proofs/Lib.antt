@@ -1,5 +1,6 @@
 -- Laws.
 pub mod StepLaws
+pub mod LeastLaws
 pub mod RowLaws
 pub mod ShiftLaws
 pub mod SheetNet
