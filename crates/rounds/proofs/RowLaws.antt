@@ -17,7 +17,7 @@ use Rattle.words.proofs.FitLaws.{fits, sum-size}
 use Rattle.words.proofs.LoopLaws.{passed?, length-tab, getD-tab}
 use Rattle.records.specs.Records.{most-nodes}
 use Rattle.sheets.specs.Sheet.{most-delays}
-use Rattle.folding.specs.Walks.{Net, row, round, settled, foldable, deepest}
+use Rattle.folding.specs.Walks.{Net, row, round, settled, foldable}
 use Rattle.folding.proofs.RoundLaws.{Closed, length-row, round-next, round-nonpos, settled-at, falls-at}
 use Rattle.folding.proofs.AlikeLaws.{better-same}
 use Rattle.folding.proofs.SettleLaws.{settled-later, settled-row, chain-first, round-low}
@@ -112,22 +112,18 @@ module _ {b : List ℕ} {at nodes wires : ℕ} (bounds : List Iterations) (wired
       ]
 
     -- nothing was settled before, and now it is
-    pub settled-answer : k < nodes → ((j : ℕ) → j < k → settled g j ≡ false) → settled g k ≡ true →
-        (least : Iterations) → least .0 ≡ deepest (row-of nodes l) nodes → Settling g (record { totals = l; least = least; rounds = k; settled = true })
+    pub settled-answer : k < nodes → ((j : ℕ) → j < k → settled g j ≡ false) → settled g k ≡ true → Settling g (record { totals = l; rounds = k; settled = true })
     unfolding foldable
-    settled-answer h before here least low = record {
+    settled-answer h before here = record {
       settled = sym (settled-later g k (nodes - 1) here (omega arith));
       rounds = λ t. sym (chain-first g k h before here);
       totals = λ t. row-is k l is ∙ settled-row g k (nodes - 1) here (omega arith);
-      least = low;
     }
 
-  pub unsettled-answer : (k : ℕ) (l : List Iterations) → settled g (nodes - 1) ≡ false →
-      (least : Iterations) → least .0 ≡ deepest (row-of nodes l) nodes → Settling g (record { totals = l; least = least; rounds = k; settled = false })
+  pub unsettled-answer : (k : ℕ) (l : List Iterations) → settled g (nodes - 1) ≡ false → Settling g (record { totals = l; rounds = k; settled = false })
   unfolding foldable
-  unsettled-answer k l h least low = record {
+  unsettled-answer k l h = record {
     settled = sym h;
     rounds = λ t. absurd (true≢false (sym t ∙ h));
     totals = λ t. absurd (true≢false (sym t ∙ h));
-    least = low;
   }

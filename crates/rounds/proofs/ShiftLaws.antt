@@ -24,6 +24,11 @@ use Rattle.rounds.specs.Rounds.{number-at, row-of, shifted, Moderate, Se
 use Rattle.rounds.specs.declared.Settled.{Settled}
 use Rattle.rounds.proofs.RowLaws.{high-up}
 
+pub least-more : (n u : ℕ) (l : List Iterations) (a x : Iterations) → u < n → a .0 ≡ deepest (row-of n l) u →
+    x .0 ≡ cond (leZ (a .0) (number-at l u)) (a .0) (number-at l u) → x .0 ≡ deepest (row-of n l) (u + 1)
+unfolding deepest minℤ
+least-more n u l a x h p q = q ∙ rw (add-one u, p, getD-tab n (number-at l) u (pos 0) h) refl
+
 pub filled-more : (f : ℕ → ℤ) (l : List Iterations) (u : ℕ) (x : Iterations) → u < length l → x .0 ≡ f u →
     ((v : ℕ) → v < u → number-at l v ≡ f v) → (v : ℕ) → v < u + 1 → number-at (set l u x) v ≡ f v
 filled-more f l u x h q r v k = elim (ℕ-discrete v u) [

@@ -55,7 +55,6 @@ pub record Settling (g : Net) (r : Settled) : Type 0 where
   pub settled : r .settled ≡ foldable g
   pub rounds : foldable g ≡ true → r .rounds ≡ chain g
   pub totals : foldable g ≡ true → row-of (g .nodes) (r .totals) ≡ latest g
-  pub least : r .least .0 ≡ deepest (row-of (g .nodes) (r .totals)) (g .nodes)
 
 -- "One constant is added to all values so that the smallest is 0": node u of the first n of the totals d, none of which is above 0
 abbrev pub shifted : List ℤ → ℕ → ℕ → ℤ

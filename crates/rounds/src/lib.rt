@@ -28,26 +28,19 @@ impl Layout {
     pub const TO: usize = 3;
 }
 
-// What the rounds come to, the least of it, and how many there were.
+// What the rounds come to, and how many there were.
 pub struct Settled {
     pub totals: [Iterations; Layout::NODES],
-    pub least: Iterations,
     pub rounds: u8,
     pub settled: bool,
 }
 
 impl Settled {
-    pub fn new(
-        totals: [Iterations; Layout::NODES],
-        least: Iterations,
-        rounds: u8,
-        settled: bool,
-    ) -> Self
-        ensures { λ r. ⌜ r ≡ record { totals = totals; least = least; rounds = rounds; settled = settled } ⌝ }
+    pub fn new(totals: [Iterations; Layout::NODES], rounds: u8, settled: bool) -> Self
+        ensures { λ r. ⌜ r ≡ record { totals = totals; rounds = rounds; settled = settled } ⌝ }
     {
         Self {
             totals,
-            least,
             rounds,
             settled,
         }
@@ -97,7 +90,6 @@ pub fn settle(
 {
     let mut former = no_totals();
     let mut totals = former;
-    let mut least = Iterations::zero();
     let mut changed = false;
     let mut k = 0;
     let mut e = 0;
@@ -109,7 +101,6 @@ pub fn settle(
             e += 1;
             if sum.below(totals[u]) {
                 totals[u] = sum;
-                least = least.lesser(sum);
                 changed = true;
             }
             continue;
@@ -122,20 +113,31 @@ pub fn settle(
         e = 0;
         k += 1;
     }
-    Settled::new(totals, least, k as u8, k < nodes)
+    Settled::new(totals, k as u8, k < nodes)
+}
+
+// The least of the first totals, none of which is above 0.
+fn deepest(totals: [Iterations; Layout::NODES], nodes: usize) -> Iterations
+    requires { ⌜ nodes ≤ most-nodes ⌝ }
+    ensures { λ r. ⌜ r .0 ≡ deepest (row-of nodes totals) nodes ⌝ }
+{
+    let mut least = Iterations::zero();
+    let mut u = 0;
+    while u < nodes {
+        let total = totals[u];
+        least = least.lesser(total);
+        u += 1;
+    }
+    least
 }
 
 // One constant is added to all totals so that the smallest is 0.
-pub fn starts(
-    totals: [Iterations; Layout::NODES],
-    nodes: usize,
-    least: Iterations,
-) -> [Iterations; Layout::NODES]
+pub fn starts(totals: [Iterations; Layout::NODES], nodes: usize) -> [Iterations; Layout::NODES]
     requires { ⌜ nodes ≤ most-nodes ⌝ }
-    requires { ⌜ least .0 ≡ deepest (row-of nodes totals) nodes ⌝ }
     requires { ⌜ ((u : ℕ) → u < nodes → SFits w32 (shifted (row-of nodes totals) nodes u)) ⌝ }
     ensures { λ r. ⌜ ((u : ℕ) → u < nodes → number-at r u ≡ shifted (row-of nodes totals) nodes u) ⌝ }
 {
+    let least = deepest(totals, nodes);
     let made = no_totals();
     let mut starts = made;
     let mut u = 0;
@@ -168,7 +170,7 @@ pub fn retime(
             settled: false,
         };
     }
-    let shifted = starts(totals, nodes, rows.least);
+    let shifted = starts(totals, nodes);
     Retimed {
         starts: shifted,
         rounds: rows.rounds,

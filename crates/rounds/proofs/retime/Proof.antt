@@ -22,11 +22,8 @@ starts-requires c κs =
     let s = f .args in
     let r = c .before .before .before .settle in (
       f .pre .0 .few-nodes,
-      (
-        r .ensures .least,
-        starts-fit (bytes-net (s .b .now) (s .at) (s .nodes) (s .wires) (s .bounds)) (r .result) (r .ensures) (not-false _ (c .if1 .left))
-            (closed (s .bounds) (f .pre .0)) (f .pre .1) (f .pre .0 .few-nodes),
-      ),
+      starts-fit (bytes-net (s .b .now) (s .at) (s .nodes) (s .wires) (s .bounds)) (r .result) (r .ensures) (not-false _ (c .if1 .left))
+          (closed (s .bounds) (f .pre .0)) (f .pre .1) (f .pre .0 .few-nodes),
     )
 
 returns-2 : tie.Need-returns-2

@@ -11,61 +11,55 @@ use borrow.Author.Tests.{not-true, not-false, lt-ltb, le-ltb}
 use borrow.Author.Count.{below-more}
 use lib.ListN.{length, length-set}
 use Rattle.records.specs.Records.{most-nodes}
-use Rattle.folding.specs.Walks.{better, round, settled, minℤ, deepest}
+use Rattle.folding.specs.Walks.{better, round, settled}
 use Rattle.folding.proofs.RoundLaws.{round-zero}
-use Rattle.rounds.specs.Rounds.{number-at, row-of, bytes-net}
+use Rattle.rounds.specs.Rounds.{number-at, bytes-net}
 use Rattle.rounds.proofs.StepLaws.{Reached, reached-less, reached-past, Fell, fell-more}
-use Rattle.rounds.proofs.LeastLaws.{least-none, least-more}
 use Rattle.rounds.proofs.RowLaws.{sum-fits, rounded-more, stays-settled, falls-unsettled, settled-answer, unsettled-answer}
 use Rattle.rounds.proofs.settle.Statement.{statement}
 use Rattle.rounds.proofs.settle.Tie as tie
 
 abbrev Inv-loop : tie.InvT-loop
-Inv-loop b at wires nodes bounds former₀ totals₀ least₀ changed₀ k₀ e₀ former totals least changed k e =
+Inv-loop b at wires nodes bounds former₀ totals₀ changed₀ k₀ e₀ former totals changed k e =
     let g = bytes-net b at nodes wires bounds in
     (k ≤ nodes) × (e ≤ wires) × (length totals ≡ most-nodes) × ((u : ℕ) → u < nodes → number-at former u ≡ round g k u)
     × Reached (bytes-net b at most-nodes wires bounds) (number-at former) totals e × Fell nodes (number-at former) totals changed × ((j : ℕ) → j < k → settled g j ≡ false)
-    × (least .0 ≡ deepest (row-of nodes totals) nodes)
 
 -- turns that are left, each round with one for its end
 abbrev μ-loop : tie.MeasureT-loop
-μ-loop b at wires nodes bounds former₀ totals₀ least₀ changed₀ k₀ e₀ former totals least changed k e = (nodes - k) * 97 + (wires - e)
+μ-loop b at wires nodes bounds former₀ totals₀ changed₀ k₀ e₀ former totals changed k e = (nodes - k) * 97 + (wires - e)
 
 no-totals-requires : tie.Need-no-totals-requires Inv-loop μ-loop
 no-totals-requires c κs = search needs
 
-zero-requires : tie.Need-zero-requires Inv-loop μ-loop
-zero-requires c κs = search needs
-
 loop-holds : tie.Need-loop-holds Inv-loop μ-loop
 unfolding better
 loop-holds c =
-    let s = c .before .before .before .args in (
+    let s = c .before .before .args in (
       omega arith,
       omega arith,
       search needs,
-      (λ u h. c .before .no-totals .ensures u ∙ sym (round-zero (bytes-net (s .b .now) (s .at) (s .nodes) (s .wires) (s .t5)) u h)),
+      (λ u h. c .no-totals .ensures u ∙ sym (round-zero (bytes-net (s .b .now) (s .at) (s .nodes) (s .wires) (s .t5)) u h)),
       (λ u. refl),
       (λ u. refl),
       (λ j h. absurd (omega arith)),
-      c .zero .ensures ∙ sym (least-none (s .nodes) (s .nodes) (c .before .no-totals .result) (omega arith) (c .before .no-totals .ensures)),
     )
 
 end-at-requires : tie.Need-end-at-requires Inv-loop μ-loop
-end-at-requires c κs = omega (arith, c .before .before .before .before .before .before .pre .0 .inside, c .if1 .taken)
+end-at-requires c κs = omega (arith, c .before .before .before .before .before .pre .0 .inside, c .if1 .taken)
 
 end-at-requires-2 : tie.Need-end-at-requires-2 Inv-loop μ-loop
-end-at-requires-2 c κs = omega (arith, c .before .before .before .before .before .before .before .pre .0 .inside, c .before .if1 .taken)
+end-at-requires-2 c κs = omega (arith, c .before .before .before .before .before .before .pre .0 .inside, c .before .if1 .taken)
 
-leaves : (c : tie.After-end-at Inv-loop μ-loop) → c .end-at .result < c .before .before .before .before .before .before .before .args .nodes
+leaves : (c : tie.After-end-at Inv-loop μ-loop) → c .end-at .result < c .before .before .before .before .before .before .args .nodes
 leaves c =
     let l = c .before .before .before in
-    rw (c .end-at .ensures) (l .before .before .before .before .pre .0 .leaves (l .loop .e) (c .before .if1 .taken))
+    rw (c .end-at .ensures) (l .before .before .before .pre .0 .leaves (l .loop .e) (c .before .if1 .taken))
 
 meets : (c : tie.After-end-at2 Inv-loop μ-loop) → c .end-at2 .result < most-nodes
 meets c =
     let l = c .before .before .before .before in
-    let f = l .before .before .before .before in
+    let f = l .before .before .before in
     rw (c .end-at2 .ensures) (omega (arith, f .pre .0 .meets (l .loop .e) (c .before .before .if1 .taken), f .pre .0 .few-nodes))
 
 mul-plus : tie.Need-mul-plus Inv-loop μ-loop
@@ -83,7 +77,7 @@ array-copy-out-plus-2 c = omega (arith, meets (c .before))
 plus-requires : tie.Need-plus-requires Inv-loop μ-loop
 plus-requires c κs =
     let l = c .before .before .before .before .before .before in
-    let f = l .before .before .before .before in
+    let f = l .before .before .before in
     rw (c .before .before .end-at2 .ensures)
     (sum-fits (f .args .t5) (f .pre .0) (l .loop .k) (l .loop .former) (l .loop .inv .3) (l .loop .inv .0) (f .pre .1) (l .loop .e) (c .before .before .before .before .if1 .taken))
 
@@ -105,29 +99,25 @@ mul-totals c = omega (arith, leaves (c .before .before .before .before .before .
 array-set-from-totals : tie.Need-array-set-from-totals Inv-loop μ-loop
 array-set-from-totals c = omega (arith, leaves (c .before .before .before .before .before .before .before))
 
-lesser-requires : tie.Need-lesser-requires Inv-loop μ-loop
-lesser-requires c κs = search needs
-
 loop-less : tie.Need-loop-less Inv-loop μ-loop
 loop-less c = search needs
 
 loop-again : tie.Need-loop-again Inv-loop μ-loop
 loop-again c =
-    let a = c .before .before .before .before .before .before .before .before in
+    let a = c .before .before .before .before .before .before .before in
     let l = a .before .before .before in
-    let s = l .before .before .before .before .args in
+    let s = l .before .before .before .args in
     let node = leaves a in
-    let long : a .end-at .result < length (l .loop .totals) = omega (arith, node, l .loop .inv .2, l .before .before .before .before .pre .0 .few-nodes) in
-    let less = sym (c .before .before .below .ensures) ∙ c .before .if2 .taken in (
+    let long : a .end-at .result < length (l .loop .totals) = omega (arith, node, l .loop .inv .2, l .before .before .before .pre .0 .few-nodes) in
+    let less = sym (c .before .below .ensures) ∙ c .if2 .taken in (
       l .loop .inv .0,
       omega (arith, a .before .if1 .taken),
       simp length-set (l .loop .inv .2),
       l .loop .inv .3,
-      reached-less (bytes-net (s .b .now) (s .at) most-nodes (s .wires) (s .t5)) (number-at (l .loop .former)) (l .loop .e) (a .end-at .result) (c .before .before .before .before .before .before .before .end-at2 .result)
-          (c .before .before .before .before .plus .result) (a .end-at .ensures) (c .before .before .before .before .before .before .before .end-at2 .ensures) (c .before .before .before .before .plus .ensures) (l .loop .totals) (l .loop .inv .4) long less,
-      fell-more (s .nodes) (number-at (l .loop .former)) (l .loop .totals) (a .end-at .result) (c .before .before .before .before .plus .result) node long less (l .loop .changed) (l .loop .inv .5),
+      reached-less (bytes-net (s .b .now) (s .at) most-nodes (s .wires) (s .t5)) (number-at (l .loop .former)) (l .loop .e) (a .end-at .result) (c .before .before .before .before .before .before .end-at2 .result)
+          (c .before .before .before .plus .result) (a .end-at .ensures) (c .before .before .before .before .before .before .end-at2 .ensures) (c .before .before .before .plus .ensures) (l .loop .totals) (l .loop .inv .4) long less,
+      fell-more (s .nodes) (number-at (l .loop .former)) (l .loop .totals) (a .end-at .result) (c .before .before .before .plus .result) node long less (l .loop .changed) (l .loop .inv .5),
       l .loop .inv .6,
-      c .lesser .ensures ∙ rw (l .loop .inv .7) (unfold minℤ in refl) ∙ sym (least-more (s .nodes) (l .loop .totals) (a .end-at .result) (c .before .before .before .before .plus .result) node long less),
     )
 
 loop-less-2 : tie.Need-loop-less-2 Inv-loop μ-loop
@@ -137,7 +127,7 @@ loop-again-2 : tie.Need-loop-again-2 Inv-loop μ-loop
 loop-again-2 c =
     let a = c .before .before .before .before .before .before .before in
     let l = a .before .before .before in
-    let s = l .before .before .before .before .args in (
+    let s = l .before .before .before .args in (
       l .loop .inv .0,
       omega (arith, a .before .if1 .taken),
       l .loop .inv .2,
@@ -147,7 +137,6 @@ loop-again-2 c =
           (sym (c .before .below .ensures) ∙ c .if2 .left),
       l .loop .inv .5,
       l .loop .inv .6,
-      l .loop .inv .7,
     )
 
 add-k : tie.Need-add-k Inv-loop μ-loop
@@ -160,7 +149,7 @@ loop-again-3 : tie.Need-loop-again-3 Inv-loop μ-loop
 unfolding better
 loop-again-3 c =
     let l = c .before .before .before .loop in
-    let f = c .before .before .before .before .before .before .before in
+    let f = c .before .before .before .before .before .before in
     let s = f .args in
     let all : l .e ≡ s .wires = omega (arith, l .inv .1, c .before .if1 .left) in
     let reached = rw all at (l .inv .4) in (
@@ -171,7 +160,6 @@ loop-again-3 c =
       (λ u. refl),
       (λ u. refl),
       below-more _ _ (l .inv .6) (falls-unsettled (s .t5) (f .pre .0) (l .k) (l .former) (l .inv .3) (l .totals) reached (subst (Fell (s .nodes) (number-at (l .former)) (l .totals)) (not-false (l .changed) (c .if3 .left)) (l .inv .5))),
-      l .inv .7,
     )
 
 cast-new : tie.Need-cast-new Inv-loop μ-loop
@@ -183,17 +171,17 @@ new-requires c κs = search needs
 returns : tie.Need-returns Inv-loop μ-loop
 returns c =
     let l = c .before .before .loop in
-    let f = c .before .before .before .before .before .before in
+    let f = c .before .before .before .before .before in
     let s = f .args in
     ⊎-elim
     (λ w. rw (c .new .ensures, le-ltb (l .k) (s .nodes) (omega (arith, w .left)))
-    (unsettled-answer (s .t5) (f .pre .0) (l .k) (l .totals) (l .inv .6 (s .nodes - 1) (omega (arith, w .left, f .pre .0 .some-node))) _ (l .inv .7)))
+    (unsettled-answer (s .t5) (f .pre .0) (l .k) (l .totals) (l .inv .6 (s .nodes - 1) (omega (arith, w .left, f .pre .0 .some-node)))))
     (λ w.
     let all : l .e ≡ s .wires = omega (arith, l .inv .1, w .1 .left) in
     let same = subst (Fell (s .nodes) (number-at (l .former)) (l .totals)) (not-true (l .changed) (w .2 .taken)) (l .inv .5) in
     rw (c .new .ensures, lt-ltb (l .k) (s .nodes) (w .0 .taken))
     (settled-answer (s .t5) (f .pre .0) (l .k) (l .totals) (λ u h. same u ∙ l .inv .3 u h) (w .0 .taken) (l .inv .6)
-    (stays-settled (s .t5) (f .pre .0) (l .k) (l .former) (l .inv .3) (l .totals) (rw all at (l .inv .4)) same) _ (l .inv .7)))
+    (stays-settled (s .t5) (f .pre .0) (l .k) (l .former) (l .inv .3) (l .totals) (rw all at (l .inv .4)) same)))
     (c .before .loop-test .came)
 
 pub settle-spec : {M : Type 1} → statement M
@@ -203,7 +191,6 @@ settle-spec =
     Inv-loop
     μ-loop
     no-totals-requires
-    zero-requires
     loop-holds
     end-at-requires
     end-at-requires-2
@@ -218,7 +205,6 @@ settle-spec =
     below-requires
     mul-totals
     array-set-from-totals
-    lesser-requires
     loop-less
     loop-again
     loop-less-2

@@ -12,11 +12,14 @@ use Rattle.rounds.proofs.starts.Statement.{statement}
 use Rattle.rounds.proofs.starts.Tie as tie
 
 abbrev Inv-loop : tie.InvT-loop
-Inv-loop nodes least totals starts₀ u₀ starts u =
+Inv-loop nodes totals least starts₀ u₀ starts u =
     (u ≤ nodes) × (length starts ≡ most-nodes) × ((v : ℕ) → v < u → number-at starts v ≡ shifted (row-of nodes totals) nodes v)
 
 abbrev μ-loop : tie.MeasureT-loop
 μ-loop nodes totals least starts₀ u₀ starts u = nodes - u
+
+deepest-requires : tie.Need-deepest-requires Inv-loop μ-loop
+deepest-requires c κs = search needs
 
 no-totals-requires : tie.Need-no-totals-requires Inv-loop μ-loop
 no-totals-requires c κs = search needs
@@ -31,15 +34,15 @@ array-copy-out-total : tie.Need-array-copy-out-total Inv-loop μ-loop
 array-copy-out-total c = search needs
 
 at-u : (c : tie.After-total Inv-loop μ-loop) →
-    let s = c .before .before .before .before .args in
+    let s = c .before .before .before .before .before .args in
     let u = c .before .before .loop .u in
-    number-at (s .t1) u -ℤ s .least .0 ≡ shifted (row-of (s .nodes) (s .t1)) (s .nodes) u
+    number-at (s .t1) u -ℤ c .before .before .before .before .deepest .result .0 ≡ shifted (row-of (s .nodes) (s .t1)) (s .nodes) u
 at-u c =
-    let s = c .before .before .before .before in
-    shift-at (s .args .nodes) (c .before .before .loop .u) (s .args .t1) (s .args .least) (c .before .loop-test .taken) (s .pre .1 .0)
+    let s = c .before .before .before .before .before .args in
+    shift-at (s .nodes) (c .before .before .loop .u) (s .t1) _ (c .before .loop-test .taken) (c .before .before .before .before .deepest .ensures)
 
 minus-requires : tie.Need-minus-requires Inv-loop μ-loop
-minus-requires c κs = rw (at-u c) (c .before .before .before .before .pre .1 .1 _ (c .before .loop-test .taken))
+minus-requires c κs = rw (at-u c) (c .before .before .before .before .before .pre .1 _ (c .before .loop-test .taken))
 
 mul-starts : tie.Need-mul-starts Inv-loop μ-loop
 mul-starts c = search needs
@@ -56,14 +59,14 @@ loop-less c = search needs
 loop-again : tie.Need-loop-again Inv-loop μ-loop
 loop-again c =
     let l = c .before .before .before .loop in
-    let s = c .before .before .before .before .before .args in
+    let s = c .before .before .before .before .before .before .args in
     let long = l .inv .1 in
     (omega arith, simp length-set long, filled-more (shifted (row-of (s .nodes) (s .t1)) (s .nodes)) (l .starts) (l .u) (c .minus .result) (omega arith) (c .minus .ensures ∙ at-u (c .before)) (l .inv .2))
 
 returns : tie.Need-returns Inv-loop μ-loop
 returns c =
     let l = c .before .loop in
-    let e : l .u ≡ c .before .before .before .args .nodes = omega arith in
+    let e : l .u ≡ c .before .before .before .before .args .nodes = omega arith in
     λ v h. l .inv .2 v (omega arith)
 
 pub starts-spec : {M : Type 1} → statement M
@@ -72,6 +75,7 @@ starts-spec =
     (tie.spec
     Inv-loop
     μ-loop
+    deepest-requires
     no-totals-requires
     loop-holds
     mul-total
