@@ -25,7 +25,7 @@ use Rattle.folding.proofs.SizeLaws.{small-of, last-lt, registers-fit}
 use Rattle.waits.specs.Fine.{Fine, Longest, from-node}
 use Rattle.waits.proofs.FineLaws.{passed-so, sound-so, nodes-so, few-nodes}
 use Rattle.lifetimes.specs.declared.Live.{Live}
-use Rattle.lifetimes.specs.Counts.{Counted, wait-of, rounds-of, rest-of, LiveOf}
+use Rattle.lifetimes.specs.Counts.{wait-of, rounds-of, rest-of, LiveOf}
 
 -- a total of bits is at most their number
 bits-le : (n : ℕ) (p : ℕ → Bool) → total n (λ x. cond (p x) 1 0) ≤ n
