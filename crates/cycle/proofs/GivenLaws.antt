@@ -1,11 +1,11 @@
 -- What a node's record gives the code: its op's ranges, its start, and what it brings at its turn of the loop. Assumes nothing.
-use mathlib.Core.Path.{_≡_, refl, sym, ap, _∙_, subst}
+use mathlib.Core.Path.{_≡_, sym, ap, _∙_, subst}
 use mathlib.Core.Bool.{Bool, true, false, _&&_}
 use mathlib.Core.List.{List}
-use Prim.Native.Nat.{ℕ, _+_, _*_, _/_, _%_, _<_, _≤_}
+use Prim.Native.Nat.{ℕ, _+_, _*_, _/_, _%_, _<_}
 use native.Mathlib.Omega.{arith}
 use lib.Dec.{ltb, leb, eqb}
-use lib.ListN.{length, getD}
+use lib.ListN.{length}
 use lib.IntN.{ℤ, pos, natAbs}
 use borrow.Author.Tests.{eq-eqb, ne-eqb}
 use Rattle.words.proofs.LoopLaws.{and-split}

@@ -1,10 +1,10 @@
 -- One turn more of the loops that write: the leaving words at the head of the output, and each unit's places moved. Assumes nothing.
-use mathlib.Core.Path.{_≡_, refl, sym, ap, ap₂, _∙_, subst}
+use mathlib.Core.Path.{_≡_, refl, sym, ap, ap₂, _∙_}
 use mathlib.Core.List.{List, [], _∷_, _++_, append-assoc}
 use Prim.Native.Nat.{ℕ, zero, suc, _+_, _-_, _<_, _≤_}
 use native.Mathlib.Numerals.{add-one}
 use native.Mathlib.Omega.{arith}
-use lib.ListN.{length, getD, set, take, drop, replicate, length-append, length-drop, length-take}
+use lib.ListN.{length, getD, set, take, drop, replicate, length-drop, length-take}
 use lib.Seq.{take-at, drop-at, drop-append-add, drop-drop}
 use Rattle.words.specs.Loops.{tab}
 use Rattle.words.proofs.LoopLaws.{length-tab}
@@ -12,7 +12,7 @@ use Rattle.records.specs.Units.{word-before}
 use Rattle.records.specs.Records.{at, over}
 use Rattle.plans.specs.declared.Plan as Head
 use Rattle.plans.specs.Plan.{Plan, unit-in, plan-read}
-use Rattle.cycle.specs.Cycle.{places, base, size, blocks, cleared, result, moved, stepped, reading, leaving}
+use Rattle.cycle.specs.Cycle.{places, base, size, blocks, cleared, moved, stepped, reading, leaving}
 use Rattle.cycle.specs.declared.Lines.{Lines}
 use Rattle.cycle.specs.Taken.{Taken, LinesOf, shifted}
 use Rattle.cycle.specs.Given.{ResultsOf}

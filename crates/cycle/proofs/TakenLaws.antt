@@ -1,23 +1,20 @@
 -- What is known of plan bytes that have no fault: where records stand, and what their numbers name. Assumes nothing.
-use mathlib.Core.Path.{_≡_, refl, sym, ap, _∙_, subst}
-use mathlib.Core.Bool.{Bool, true, false, _&&_}
+use mathlib.Core.Path.{_≡_, ap}
+use mathlib.Core.Bool.{Bool, _&&_}
 use mathlib.Core.List.{List}
-use Prim.Native.Nat.{ℕ, suc, _+_, _*_, _<_, _≤_}
+use Prim.Native.Nat.{ℕ, _+_, _*_, _<_, _≤_}
 use native.Mathlib.Omega.{arith}
-use lib.Dec.{ltb, leb, eqb}
+use lib.Dec.{leb, eqb}
 use lib.ListN.{length}
-use borrow.Author.Tests.{ltb-true, eqb-true}
-use Rattle.words.specs.Loops.{some-of, every}
+use borrow.Author.Tests.{eqb-true}
 use Rattle.words.proofs.LoopLaws.{and-split, every-at}
-use Rattle.words.proofs.CountLaws.{some-found}
-use Rattle.records.specs.Units.{unit-fits, inputs-of}
-use Rattle.records.specs.Records.{at, two, fold-in, units-in, nodes-in, wires-in, counts-fit, unit-place, node-place, wire-place, whole-length, runs-in, node-fits}
+use Rattle.records.specs.Records.{at, two, counts-fit}
 use Rattle.records.proofs.ReadingLaws.{Counts, counts-split}
 use Rattle.records.proofs.NodeLaws.{UnitFits, unit-split, NodeFits, node-split}
 use Rattle.plans.specs.declared.Plan as Head
-use Rattle.plans.specs.Plan.{Plan, PlanUnit, PlanNode, Switch, unit-in, node-in, switch-in, plan-format, plan-unit-at, plan-node-at, switch-at, plan-read}
+use Rattle.plans.specs.Plan.{Plan, PlanUnit, unit-in, node-in, switch-in, plan-read}
 use Rattle.plans.specs.Heads.{Whole}
-use Rattle.plans.specs.Judging.{most-chain, switch-fits, longest-tap, idle-slots, figures-right, plan-fault}
+use Rattle.plans.specs.Judging.{most-chain, longest-tap, idle-slots, figures-right}
 use Rattle.plans.proofs.JudgingLaws.{Judged, judged, SwitchFits, switch-split}
 use Rattle.plans.proofs.ReadLaws.{units-read, nodes-read, switches-read}
 use Rattle.plans.proofs.WholeLaws.{units-so, nodes-so, wires-so, unit-so}

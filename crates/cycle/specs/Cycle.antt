@@ -9,7 +9,7 @@ use lib.IntN.{natAbs}
 use Rattle.words.specs.Loops.{tab, lowest}
 use Rattle.records.specs.Units.{value, word-before}
 use Rattle.records.specs.Records.{at, runs-in}
-use Rattle.plans.specs.Plan.{Plan, PlanNode, unit-in, node-in, switch-in}
+use Rattle.plans.specs.Plan.{Plan, unit-in, node-in, switch-in}
 use Rattle.plans.specs.Judging.{switched}
 
 -- ---- memory

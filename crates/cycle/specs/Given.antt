@@ -5,7 +5,6 @@ use mathlib.Core.List.{List}
 use Prim.Native.Nat.{ℕ, _+_, _*_, _/_, _<_}
 use lib.Dec.{ltb, eqb}
 use lib.ListN.{length, getD}
-use lib.IntN.{ℤ}
 use Rattle.records.specs.declared.Node.{Node}
 use Rattle.records.specs.Units.{value, word-before}
 use Rattle.records.specs.Records.{at}

@@ -2,7 +2,7 @@
 -- Assumes nothing.
 use mathlib.Core.Path.{_≡_, refl, sym, ap, _∙_, subst}
 use mathlib.Core.List.{List, _∷_}
-use Prim.Native.Nat.{ℕ, suc, _*_, _≤_}
+use Prim.Native.Nat.{ℕ, _≤_}
 use native.Mathlib.Decide.{ℕ-discrete}
 use native.Mathlib.Omega.{arith}
 use lib.ListN.{length, drop}
@@ -13,12 +13,12 @@ use Rattle.sheets.proofs.SheetLaws.{passed, sound-of}
 use Rattle.folding.proofs.FoldingLaws.{folds-well}
 use Rattle.plans.specs.Plan.{plan-bytes, loop-bytes}
 use Rattle.planner.specs.PlanOf.{plan-of}
-use Rattle.planner.specs.Planning.{plan-length, answered-length, left-in, Planning}
+use Rattle.planner.specs.Planning.{answered-length, left-in, Planning}
 use Rattle.planner.proofs.PassedPlan.{length-written}
 use Rattle.planner.proofs.PlanningLaws.{plan-number-le, at-zero, at-six, length-loop, loop-room, length-over, drop-over, planning-met, planned-once}
-use Rattle.machine.specs.Stepping.{clear-number, clear-memory, step-number, step-memory, step-output, Clearing, Stepping}
+use Rattle.machine.specs.Stepping.{clear-number, clear-memory, step-number, step-memory, step-output}
 use Rattle.machine.proofs.SteppingLaws.{clear-numbers, step-numbers, clear-kept, step-kept, clear-length, clear-rest, step-length, step-rest}
-use Rattle.demands.specs.Demands.{PlannerEnds, ClearEnds, StepEnds, Demand1, OneResult}
+use Rattle.demands.specs.Demands.{PlannerEnds, Demand1, OneResult}
 
 -- w was written at the head of the buffer, and len is its length
 written : (before : List ℕ) (number len : ℕ) (after w : List ℕ) → number ≤ 7 → ((¬ (number ≡ 0)) → (¬ (number ≡ 6)) → after ≡ before) →

@@ -1,11 +1,11 @@
 -- Demand 3: the words leaving are the graph's values, of any plan that folds a sound sheet, and through the calls from a result 0.
 -- Assumes nothing.
-use mathlib.Core.Path.{_≡_, refl, sym, ap, _∙_, subst}
+use mathlib.Core.Path.{_≡_, refl, sym, ap, _∙_}
 use mathlib.Core.List.{List}
 use Prim.Native.Nat.{ℕ, zero, suc, _+_, _*_, _<_, _≤_}
 use native.Mathlib.Omega.{arith}
 use lib.ListN.{length, take}
-use Rattle.records.specs.Units.{channels, word-before}
+use Rattle.records.specs.Units.{channels}
 use Rattle.records.specs.Records.{at}
 use Rattle.sheets.specs.Sheet.{Sheet, sheet-of, unit-of, node-of}
 use Rattle.sheets.specs.Sound.{Sound}
@@ -13,14 +13,13 @@ use Rattle.folding.specs.Folding.{depth-of}
 use Rattle.plans.specs.Plan.{Plan, node-in, plan-read}
 use Rattle.plans.specs.Judging.{plan-fault}
 use Rattle.planner.specs.Folds.{Folds}
-use Rattle.planner.specs.Planning.{Planning}
-use Rattle.cycle.specs.Cycle.{places, size, place, result, run, leaving}
-use Rattle.machine.specs.Stepping.{clear-number, step-number, step-memory, step-output}
+use Rattle.cycle.specs.Cycle.{size, place, result, run, leaving}
+use Rattle.machine.specs.Stepping.{step-number, step-memory, step-output}
 use Rattle.cycle.proofs.MemoryLaws.{begun, ago-none, ago-some, place-run, length-run, cycle-run}
 use Rattle.machine.proofs.SteppingLaws.{clear-fine, clear-is, step-fine, step-is, output-is}
 use Rattle.demands.specs.Graph.{Values, HasValues}
-use Rattle.demands.specs.Running.{Handed, Leaves, memory, last-cycle, Runs}
-use Rattle.demands.specs.Demands.{Bytes, Demand3Folds, Demand3}
+use Rattle.demands.specs.Running.{Handed, memory, last-cycle, Runs}
+use Rattle.demands.specs.Demands.{Demand3Folds, Demand3}
 use Rattle.demands.proofs.GraphLaws.{unique, values, values-right}
 use Rattle.demands.proofs.SlotLaws.{ordered}
 use Rattle.demands.proofs.Folded.{leaves}

@@ -2,15 +2,14 @@
 -- refutes every retiming; 6 exactly where there is none. Assumes nothing.
 use mathlib.Core.Path.{_≡_, refl, sym, ap, _∙_, subst}
 use mathlib.Core.Logic.{_↔_, _⊎_, inl, inr}
-use mathlib.Core.Bool.{Bool, true, false}
 use mathlib.Core.List.{List, [], _∷_, _++_}
 use Prim.Native.Nat.{ℕ, zero, suc, _+_, _*_, _/_, _<_, _≤_}
 use native.Mathlib.Decide.{ℕ-discrete}
 use native.Mathlib.Omega.{arith}
 use lib.Dec.{ltb, lit<}
-use lib.ListN.{length, getD, take, drop, List·getD-append, List·getD-eq-default}
-use lib.Seq.{take-at, getD-drop, getD-append-add}
-use lib.IntN.{ℤ, pos, _+ℤ_, _-ℤ_}
+use lib.ListN.{length, getD, take, drop, List·getD-eq-default}
+use lib.Seq.{take-at, getD-drop}
+use lib.IntN.{ℤ, pos, _+ℤ_}
 use lib.Signed.{leZ, _≤ℤ_, _<ℤ_}
 use borrow.Author.Tests.{le-leb, ltb-true, ltb-false, ne-eqb}
 use Rattle.words.specs.Loops.{tab}
@@ -27,15 +26,15 @@ use Rattle.folding.specs.Latest.{Latest}
 use Rattle.folding.proofs.WaitLaws.{wait-meets, retiming-meets, meets-retiming}
 use Rattle.folding.proofs.StartLaws.{length-starts}
 use Rattle.folding.proofs.FoldingLaws.{Foldable, folds-well, loop-of, loop-leaves-none}
-use Rattle.plans.specs.Plan.{Plan, PlanNode, no-node, node-in, switch-in, Switch, plan-bytes, loop-bytes, plan-read}
+use Rattle.plans.specs.Plan.{PlanNode, no-node, node-in, Switch, plan-bytes, loop-bytes, plan-read}
 use Rattle.plans.specs.Judging.{plan-fault}
 use Rattle.plans.proofs.ConcatLaws.{tab-is, at-concat, AllBytes, bytes-concat}
 use Rattle.planner.specs.PlanOf.{plan-of}
-use Rattle.planner.specs.Planning.{plan-length, plan-number, answered-length, left-in, Planning, LoopShown}
+use Rattle.planner.specs.Planning.{plan-length, plan-number, answered-length, left-in, Planning}
 use Rattle.planner.proofs.PlanLaws.{node-is, switch-is, nodes-as, plan-folds}
 use Rattle.planner.proofs.PassedPlan.{reads-back, passes, length-written, plan-small}
-use Rattle.planner.proofs.PlanningLaws.{Judged, at-zero, at-six, length-loop}
-use Rattle.demands.specs.Demands.{Bytes, WellPlanned, loop-read, Among, LoopProves, Demand2, Demand2Met, WaitsByBounds}
+use Rattle.planner.proofs.PlanningLaws.{at-zero, at-six}
+use Rattle.demands.specs.Demands.{Bytes, WellPlanned, loop-read, Among, Demand2Met, WaitsByBounds}
 
 pub waits-by-bounds : WaitsByBounds
 waits-by-bounds s sound r = (retiming-meets s (sound .turns) r, meets-retiming s (sound .turns) r)

@@ -1,20 +1,19 @@
 -- The graph of a foldable sheet has values, and only one on given samples: an order of the nodes' iterations in which every word
 -- is worked out after those that it is made of. Assumes nothing.
-use mathlib.Core.Path.{_≡_, refl, sym, ap, _∙_, subst}
-use mathlib.Core.Logic.{_⊎_, inl, inr}
-use mathlib.Core.Bool.{Bool, true, false, not, cond, _&&_, true≢false}
+use mathlib.Core.Path.{_≡_, refl, sym, _∙_, subst}
+use mathlib.Core.Logic.{inl, inr}
+use mathlib.Core.Bool.{true}
 use mathlib.Core.Option.{Option, some, none}
-use mathlib.Core.List.{List, [], _∷_}
-use Prim.Native.Nat.{ℕ, zero, suc, _+_, _*_, _-_, _<_, _≤_}
+use Prim.Native.Nat.{ℕ, zero, suc, _-_, _<_, _≤_}
 use native.Mathlib.Omega.{arith}
 use lib.Dec.{ltb, eqb}
 use lib.ListN.{length}
-use lib.IntN.{ℤ, natAbs}
+use lib.IntN.{natAbs}
 use borrow.Author.Tests.{eqb-true, ltb-false}
 use Rattle.words.proofs.LoopLaws.{passed?, lowest-sound, and-split}
 use Rattle.records.specs.Units.{value}
 use Rattle.sheets.specs.Sheet.{Sheet, node-of, wire-of, feeds}
-use Rattle.demands.specs.Graph.{Values, delayed, along-wire, arriving, wire-into}
+use Rattle.demands.specs.Graph.{Values, along-wire, arriving, wire-into}
 
 -- every word comes after those that it is made of
 abbrev pub Ordered : Sheet → (ℕ → ℕ → ℕ) → Type 0

@@ -1,14 +1,14 @@
 -- Each theorem with hypotheses has an instance with all of them met: demands 2 and 3 on case 9's sheet and on one with a port, demand
 -- 2's refused half on case 10. Assumes nothing.
-use mathlib.Core.Path.{_≡_, refl, sym, ap, _∙_, subst}
+use mathlib.Core.Path.{_≡_, refl, sym, ap, subst}
 use mathlib.Core.Bool.{true}
 use mathlib.Core.List.{List, [], _∷_}
-use Prim.Native.Nat.{ℕ, zero, suc, _+_, _*_, _-_, _<_, _≤_}
+use Prim.Native.Nat.{ℕ, zero, suc, _-_, _<_, _≤_}
 use native.Mathlib.Omega.{arith}
-use lib.Dec.{ltb, leb, leb→le}
+use lib.Dec.{ltb}
 use lib.ListN.{length, take, replicate, List·getD-eq-default}
 use borrow.Author.Tests.{ltb-true, ltb-false}
-use mathlib.Core.Logic.{_⊎_, inl, inr}
+use mathlib.Core.Logic.{inl, inr}
 use Rattle.words.specs.Loops
 use Rattle.words.specs.Words
 use Rattle.records.specs.Units

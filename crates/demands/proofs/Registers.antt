@@ -1,5 +1,4 @@
 -- What the register figure means, and that every word an op gives is a word. Assumes nothing.
-use Rattle.words.specs.Words.{turn}
 use Rattle.folding.proofs.WaitingLaws.{waiting-enough, waiting-late}
 use Rattle.records.proofs.NodeLaws.{value-below}
 use Rattle.demands.specs.Demands.{RegistersMeant, OpsGiveWords}

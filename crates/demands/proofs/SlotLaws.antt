@@ -1,10 +1,10 @@
 -- What a unit works out in a slot, in a plan that folds a sound sheet. Assumes nothing.
 use mathlib.Core.Path.{_≡_, refl, sym, ap, _∙_}
-use mathlib.Core.Logic.{_⊎_, inl, inr}
-use mathlib.Core.Bool.{cond, _&&_}
-use mathlib.Core.Option.{Option, some, none}
+use mathlib.Core.Logic.{inl, inr}
+use mathlib.Core.Bool.{cond}
+use mathlib.Core.Option.{some}
 use mathlib.Core.List.{List}
-use Prim.Native.Nat.{ℕ, _+_, _*_, _-_, _/_, _%_, _<_, _≤_}
+use Prim.Native.Nat.{ℕ, _+_, _*_, _-_, _/_, _%_, _<_}
 use native.Mathlib.Nat.{mul-add-div, mul-add-mod-self-left, mod-eq-of-lt, div-eq-of-lt, add-zero}
 use native.Mathlib.Omega.{arith}
 use lib.Dec.{ltb, eqb}

@@ -7,7 +7,7 @@ use lib.ListN.{length}
 use lib.IntN.{ℤ, pos, negsuc}
 use Rattle.words.specs.Loops.{tab}
 use Rattle.words.specs.Words.{floor, scale}
-use Rattle.sheets.specs.Sheet.{Sheet, sheet-of}
+use Rattle.sheets.specs.Sheet.{sheet-of}
 use Rattle.folding.specs.Walks.{Net, start, chain}
 use Rattle.folding.specs.Folding.{net, raw, bound, tap}
 use Rattle.folding.specs.Lifetime.{registers}

@@ -2,7 +2,7 @@
 use mathlib.Core.Path.{_≡_}
 use mathlib.Core.Logic.{_↔_, _⊎_}
 use mathlib.Core.List.{List, [], _∷_}
-use Prim.Native.Nat.{ℕ, suc, _+_, _*_, _/_, _%_, _<_, _≤_}
+use Prim.Native.Nat.{ℕ, _+_, _*_, _/_, _%_, _<_, _≤_}
 use lib.ListN.{length, take, drop}
 use lib.IntN.{ℤ, pos}
 use lib.Signed.{_<ℤ_}
@@ -19,10 +19,10 @@ use Rattle.folding.specs.Lifetime.{last-live, live, registers, waiting}
 use Rattle.plans.specs.Plan.{Plan, node-in, switch-in, loop-length, plan-read}
 use Rattle.plans.specs.Judging.{plan-fault}
 use Rattle.planner.specs.Folds.{Folds}
-use Rattle.planner.specs.Planning.{plan-length, plan-number, Planning}
+use Rattle.planner.specs.Planning.{plan-length, Planning}
 use Rattle.cycle.specs.Cycle.{size, run, leaving}
 use Rattle.machine.specs.Stepping.{Clearing, Stepping}
-use Rattle.demands.specs.Graph.{Values, HasValues}
+use Rattle.demands.specs.Graph.{HasValues}
 use Rattle.demands.specs.Running.{Handed, Leaves, last-cycle, Runs}
 
 -- ---- demand 1: "Each call ends in its result or one numbered refusal of document 01, given exactly when 01 says. A refusal changes no

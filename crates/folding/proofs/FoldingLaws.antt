@@ -5,10 +5,10 @@ use mathlib.Core.List.{List, _∷_}
 use Prim.Native.Nat.{ℕ, _<_}
 use lib.ListN.{length}
 use lib.IntN.{ℤ, pos}
-use lib.Signed.{_≤ℤ_, pos-natAbs, yes-nonNeg}
+use lib.Signed.{pos-natAbs, yes-nonNeg}
 use Rattle.sheets.specs.Sheet.{Sheet, wire-of}
 use Rattle.sheets.specs.Sound.{Sound}
-use Rattle.folding.specs.Walks.{Loop, Meets, settled, foldable, chain, start}
+use Rattle.folding.specs.Walks.{Loop, foldable, chain, start}
 use Rattle.folding.specs.Latest.{Latest, IsChain}
 use Rattle.folding.specs.Folding.{net, wait, Retiming, tap}
 use Rattle.folding.proofs.RoundLaws.{Closed, loop-refutes}

@@ -4,11 +4,11 @@ use mathlib.Core.Path.{_≡_, refl, sym, ap, _∙_, subst}
 use mathlib.Core.Logic.{_⊎_, inl, inr}
 use mathlib.Core.Bool.{false}
 use mathlib.Core.List.{List, [], _∷_, _++_}
-use Prim.Native.Nat.{ℕ, zero, suc, _+_, _*_, _-_, _<_, _≤_}
+use Prim.Native.Nat.{ℕ, suc, _+_, _-_, _<_, _≤_}
 use native.Mathlib.Decide.{ℕ-discrete, decLe}
 use native.Mathlib.Omega.{arith}
 use lib.ListN.{length, length-append}
-use lib.IntN.{ℤ, pos, _+ℤ_}
+use lib.IntN.{pos, _+ℤ_}
 use lib.Signed.{_<ℤ_}
 use Rattle.words.proofs.Ints.{ints, sumℤ, up-pos, down-pos}
 use Rattle.folding.proofs.OnceLaws.{absent-left, once-turn, Below, few-but}

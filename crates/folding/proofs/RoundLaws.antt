@@ -1,18 +1,17 @@
 -- The rounds give the least totals over walks; where nothing changes any more they are the latest retiming. Assumes nothing.
 use mathlib.Core.Path.{_≡_, refl, sym, ap, _∙_, subst}
 use mathlib.Core.Logic.{_⊎_, inl, inr}
-use mathlib.Core.Bool.{Bool, true, false, cond}
+use mathlib.Core.Bool.{true, false, cond}
 use mathlib.Core.List.{List, [], _∷_}
-use Prim.Native.Nat.{ℕ, zero, suc, _+_, _*_, _-_, _<_, _≤_}
+use Prim.Native.Nat.{ℕ, zero, suc, _+_, _-_, _<_, _≤_}
 use native.Mathlib.Nat.{eq-or-lt-of-le}
 use native.Mathlib.Omega.{arith}
-use lib.Dec.{ltb, eqb}
-use lib.ListN.{length, getD}
+use lib.Dec.{eqb}
+use lib.ListN.{length}
 use lib.Seq.{ext-getD}
-use lib.IntN.{ℤ, pos, _+ℤ_, _-ℤ_}
+use lib.IntN.{ℤ, pos, _+ℤ_}
 use lib.Signed.{leZ, _≤ℤ_, _<ℤ_, ≤ℤ-refl}
-use borrow.Author.Tests.{eqb-true, eq-eqb, ltb-true, ltb-false}
-use Rattle.words.specs.Loops.{tab, every}
+use borrow.Author.Tests.{eqb-true, eq-eqb}
 use Rattle.words.proofs.Ints.{ints, sumℤ, difℤ, up-pos, down-pos, leZ-true, leZ-false, ≤ℤ-trans}
 use Rattle.words.proofs.LoopLaws.{passed?, every-at, every-not, length-tab, getD-tab}
 use Rattle.folding.specs.Walks.{Net, Walk, along, LeastIn, Least, Meets, minℤ, better, next, row, round, settled}

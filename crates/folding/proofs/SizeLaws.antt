@@ -1,24 +1,24 @@
 -- Starts, taps and the register figure fit their two bytes; a loop fits where the plan would. Assumes nothing.
-use mathlib.Core.Path.{_≡_, refl, sym, ap, _∙_, subst}
-use mathlib.Core.Logic.{_⊎_, inl, inr}
-use mathlib.Core.Bool.{Bool, true, false, not, cond, _&&_}
-use mathlib.Core.List.{List, [], _∷_, _++_}
+use mathlib.Core.Path.{_≡_, ap, subst}
+use mathlib.Core.Logic.{inl, inr}
+use mathlib.Core.Bool.{cond}
+use mathlib.Core.List.{List, [], _∷_}
 use Prim.Native.Nat.{ℕ, zero, suc, _+_, _*_, _-_, _/_, _<_, _≤_}
-use native.Mathlib.Nat.{mul-le-mul-left, mul-le-mul, div-lt-iff-lt-mul}
+use native.Mathlib.Nat.{mul-le-mul-left, div-lt-iff-lt-mul}
 use native.Mathlib.Omega.{arith}
-use lib.Dec.{ltb, eqb}
+use lib.Dec.{eqb}
 use lib.ListN.{length}
-use lib.IntN.{ℤ, pos, negsuc, negℤ, _+ℤ_, _-ℤ_, _*ℤ_, natAbs}
-use lib.Signed.{leZ, _≤ℤ_, _<ℤ_, ≤ℤ-refl}
-use Rattle.words.proofs.Ints.{up, down, ints, sumℤ, difℤ, timesℤ, le-up, up-le, lt-up, eq-up, up-pos, down-pos, leZ-true, leZ-false}
-use Rattle.words.specs.Loops.{total, largest}
+use lib.IntN.{ℤ, pos, negsuc, _-ℤ_, _*ℤ_}
+use lib.Signed.{leZ, _≤ℤ_}
+use Rattle.words.proofs.Ints.{up, down, sumℤ, difℤ, timesℤ, le-up, up-le, lt-up, eq-up, leZ-true, leZ-false}
+use Rattle.words.specs.Loops.{total}
 use Rattle.words.proofs.LoopLaws.{passed?, largest-le, total-le}
 use Rattle.words.specs.Words.{floor}
 use Rattle.words.proofs.FloorLaws.{floor-up, floor-down}
-use Rattle.sheets.specs.Sheet.{Sheet, sheet-of, unit-of, node-of, wire-of}
+use Rattle.sheets.specs.Sheet.{Sheet, sheet-of, node-of, wire-of}
 use Rattle.sheets.specs.Sound.{Sound}
 use Rattle.sheets.proofs.SheetLaws.{Passed, counts-of, nodes-is, unit-parts, node-parts, wire-parts}
-use Rattle.folding.specs.Walks.{Walk, along, Loop, round, latest, deepest, shift, start}
+use Rattle.folding.specs.Walks.{Walk, along, Loop, round, latest, deepest, start}
 use Rattle.folding.specs.Folding.{net, depth-of, raw, bound, wait, tap}
 use Rattle.folding.specs.Lifetime.{longest-wait, first-live, last-live, falls, live, registers}
 use Rattle.folding.proofs.RoundLaws.{round-met, round-nonpos}

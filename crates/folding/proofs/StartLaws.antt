@@ -1,18 +1,18 @@
 -- Starts and chain are the paper's, by walks; where no round settles, a loop shows it. Assumes nothing.
-use mathlib.Core.Path.{_≡_, refl, sym, ap, _∙_, subst}
-use mathlib.Core.Logic.{_⊎_, inl, inr}
+use mathlib.Core.Path.{_≡_, ap, _∙_, subst}
+use mathlib.Core.Logic.{inl, inr}
 use mathlib.Core.Bool.{Bool, true, false, cond}
-use mathlib.Core.List.{List, [], _∷_}
+use mathlib.Core.List.{List}
 use Prim.Native.Nat.{ℕ, zero, suc, _+_, _-_, _<_, _≤_}
 use native.Mathlib.Nat.{eq-or-lt-of-le}
 use native.Mathlib.Decide.{decLe}
 use native.Mathlib.Omega.{arith}
 use lib.ListN.{length, getD}
-use lib.IntN.{ℤ, pos, negℤ, _+ℤ_, _-ℤ_, natAbs}
+use lib.IntN.{ℤ, pos, _+ℤ_, _-ℤ_, natAbs}
 use lib.Signed.{_≤ℤ_, pos-natAbs, yes-nonNeg}
 use Rattle.words.proofs.Ints.{up, down, ints, sumℤ, difℤ, up-pos, down-pos, ≤ℤ-trans, eq-up}
 use Rattle.words.proofs.LoopLaws.{passed?, getD-tab, length-tab}
-use Rattle.folding.specs.Walks.{Net, Walk, along, LeastIn, Least, Meets, minℤ, round, settled, settles, chain, latest, deepest, shift, starts, start}
+use Rattle.folding.specs.Walks.{Net, LeastIn, Least, Meets, minℤ, round, settled, settles, chain, latest, deepest, shift, starts, start}
 use Rattle.folding.specs.Latest.{Latest, Enough, IsChain}
 use Rattle.folding.proofs.RoundLaws.{Closed, min-left, min-right, min-cases, round-nonpos, round-least, settled-meets, settled-least, round-topmost, falls-at, round-below, round-met}
 

@@ -1,8 +1,8 @@
 -- The register figure is what waits: at no cycle do more words wait than the live count of its slot, and at late cycles just as many.
 -- Assumes nothing.
-use mathlib.Core.Path.{_≡_, refl, sym, ap, _∙_, subst}
-use mathlib.Core.Logic.{_⊎_, inl, inr}
-use mathlib.Core.Bool.{Bool, true, false, cond, _&&_, true≢false}
+use mathlib.Core.Path.{_≡_, refl, sym, ap, _∙_}
+use mathlib.Core.Logic.{inl, inr}
+use mathlib.Core.Bool.{Bool, false, cond, _&&_, true≢false}
 use Prim.Native.Nat.{ℕ, zero, suc, _+_, _*_, _-_, _/_, _%_, _<_, _≤_}
 use native.Mathlib.Nat.{mod-lt, mul-add-mod-self-left, div-add-mod', mul-le-mul-left, div-le-self}
 use native.Mathlib.Decide.{decLe}
@@ -11,7 +11,7 @@ use lib.Dec.{ltb, leb, eqb}
 use lib.ListN.{length}
 use borrow.Author.Tests.{eqb-true, eq-eqb, ne-eqb, le-leb, lt-leb, lt-ltb, le-ltb, ltb-true}
 use Rattle.words.specs.Loops.{some-of, total, count}
-use Rattle.words.proofs.LoopLaws.{passed?, total-le, total-cong, count-cong, largest-ge, and-split}
+use Rattle.words.proofs.LoopLaws.{passed?, total-le, total-cong, largest-ge}
 use Rattle.words.proofs.CountLaws.{count-none, count-one, some-found, count-split}
 use Rattle.words.proofs.FaultLaws.{none-of}
 use Rattle.sheets.specs.Sheet.{Sheet, node-of}

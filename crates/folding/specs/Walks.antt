@@ -1,7 +1,7 @@
 -- Walks along bounded wires and the least totals over them; the same totals by rounds, and from them the latest retiming and
 -- the chain: 01, "The folding rules". Assumes nothing.
 use mathlib.Core.Path.{_≡_}
-use mathlib.Core.Bool.{Bool, true, false, cond}
+use mathlib.Core.Bool.{Bool, cond}
 use mathlib.Core.List.{List, [], _∷_}
 use Prim.Native.Nat.{ℕ, zero, suc, _-_, _<_, _≤_}
 use lib.Dec.{eqb}

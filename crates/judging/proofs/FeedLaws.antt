@@ -16,7 +16,6 @@ use Rattle.slots.specs.declared.feeding.Fed.{Fed}
 use Rattle.records.specs.declared.reading.Run.{Run}
 use Rattle.records.specs.Records.{clashes, fed-once}
 use Rattle.records.specs.Answers.{unit-run, units-in-run}
-use Rattle.slots.specs.Slots.{SlotsOf}
 use Rattle.slots.specs.Feeding.{FedOf, units-fed}
 use Rattle.slots.proofs.FedLaws.{fed-right}
 use Rattle.plans.specs.declared.Plan.{Plan as Header}

@@ -1,29 +1,27 @@
 -- A plan's first fault is that of its parts in 01's order: the header; the length, units and nodes; the switches; 4, 5 and 9.
 -- Assumes nothing.
 use mathlib.Core.Path.{_≡_, refl, sym, ap, ap₂, _∙_}
-use mathlib.Core.Bool.{Bool, true, false, not, _&&_}
+use mathlib.Core.Bool.{Bool, true, false, _&&_}
 use mathlib.Core.List.{List}
-use Prim.Native.Nat.{ℕ, zero, suc, _<_, _≤_}
-use native.Mathlib.Omega.{arith}
+use Prim.Native.Nat.{ℕ, zero, suc, _<_}
 use lib.Dec.{leb, eqb}
 use lib.ListN.{length}
-use borrow.Author.Tests.{leb-true}
 use Rattle.words.specs.Loops.{first, unless, _then_}
-use Rattle.words.proofs.FaultLaws.{then-split, then-assoc, unless-true, first-at}
+use Rattle.words.proofs.FaultLaws.{then-split, then-assoc, first-at}
 use Rattle.records.specs.declared.Unit.{Unit}
 use Rattle.records.specs.declared.Node.{Node}
 use Rattle.records.specs.declared.reading.Reason.{Reason}
 use Rattle.records.specs.declared.reading.Judged.the-variants as J
 use Rattle.records.specs.Units.{unit-fits}
-use Rattle.records.specs.Records.{at, fold-in, units-in, nodes-in, wires-in, counts-fit, unit-place, node-place, wire-place, whole-length, unit-at, node-at, marked, record-fault, reading-fault, node-fits}
+use Rattle.records.specs.Records.{at, units-in, nodes-in, wires-in, counts-fit, unit-place, node-place, whole-length, unit-at, node-at, marked, record-fault, reading-fault, node-fits}
 use Rattle.records.specs.Answers.{answer, judged, header-fault, front-fault}
 use Rattle.records.proofs.ReadingLaws.{record-split}
 use Rattle.records.proofs.AnswerLaws.{refused-last, refused-first}
 use Rattle.records.proofs.FrontLaws.{front-same, node-same, front-whole, front-nodes}
 use Rattle.plans.specs.declared.Plan.{Plan as Header}
-use Rattle.plans.specs.Plan.{Plan, PlanUnit, PlanNode, unit-in, node-in, switch-in, plan-format, plan-read}
-use Rattle.plans.specs.Heads.{plan-head, Whole}
-use Rattle.plans.specs.Judging.{most-chain, switch-fits, plan-faults, plan-fault}
+use Rattle.plans.specs.Plan.{PlanUnit, PlanNode, unit-in, node-in, plan-format, plan-read}
+use Rattle.plans.specs.Heads.{plan-head}
+use Rattle.plans.specs.Judging.{most-chain, plan-faults, plan-fault}
 use Rattle.plans.proofs.ReadLaws.{fold-read, units-read, unit-read, node-read}
 use Rattle.judging.specs.declared.PlanRead.the-variants as P
 use Rattle.judging.proofs.HeadLaws.{head-first, head-none}

@@ -1,12 +1,11 @@
 -- The runs of a plan's records: they lie in the bytes, and what is read there is the plan's. Assumes nothing.
-use mathlib.Core.Path.{_≡_, refl, sym, ap, subst⁻¹, _∙_}
-use mathlib.Core.Bool.{true}
+use mathlib.Core.Path.{_≡_, refl, sym, ap, subst⁻¹}
 use mathlib.Core.List.{List}
 use Prim.Native.Nat.{ℕ, _+_, _*_, _^_, _<_, _≤_}
 use native.Mathlib.Omega.{arith}
 use lib.ListN.{length}
 use Rattle.records.specs.declared.reading.Run.{Run}
-use Rattle.records.specs.Records.{fold-in, units-in, nodes-in, wires-in, wire-place, whole-length, marked}
+use Rattle.records.specs.Records.{fold-in, units-in, nodes-in, wire-place, whole-length, marked}
 use Rattle.records.specs.Answers.{unit-part, node-part, place, mark-of, unit-run, node-run, wire-run, Inside, units-in-run, nodes-in-run, parts-fault, front-fault}
 use Rattle.records.proofs.ReadingLaws.{counts-split}
 use Rattle.records.proofs.AnswerLaws.{in-run, units-inside, nodes-inside}

@@ -2,20 +2,18 @@
 use mathlib.Core.Path.{_≡_, refl, sym, ap, _∙_}
 use mathlib.Core.Bool.{true}
 use mathlib.Core.List.{List, [], _∷_, append-nil}
-use Prim.Native.Nat.{ℕ, zero, suc, _+_, _*_, _/_, _%_, _<_, _≤_}
+use Prim.Native.Nat.{ℕ, _+_, _*_, _%_, _<_, _≤_}
 use native.Mathlib.Omega.{arith}
-use lib.Dec.{leb, ltb, eqb}
+use lib.Dec.{leb, eqb}
 use lib.ListN.{length, getD, take}
 use lib.Seq.{take-at}
 use borrow.Author.Tests.{lt-ltb, le-leb, eq-eqb}
-use Rattle.words.specs.Loops.{first, unless, _then_}
 use Rattle.words.proofs.LoopLaws.{and-join}
 use Rattle.words.proofs.FaultLaws.{first-none}
-use Rattle.records.specs.Records.{at, over, most-nodes, most-wires, between, marked}
+use Rattle.records.specs.Records.{at, over, most-nodes, most-wires, between}
 use Rattle.records.proofs.ByteLaws.{marked-ok}
-use Rattle.sheets.specs.Sheet.{sheet-of, sheet-fault}
-use Rattle.sheets.proofs.SheetLaws.{Passed, passed, sound-of, counts-of, nodes-is, wires-is}
-use Rattle.folding.specs.Walks.{Net, Loop}
+use Rattle.sheets.specs.Sheet.{sheet-of}
+use Rattle.sheets.proofs.SheetLaws.{passed, sound-of, counts-of, nodes-is, wires-is}
 use Rattle.folding.specs.Folding.{net}
 use Rattle.folding.proofs.FoldingLaws.{folds-well}
 use Rattle.folding.proofs.SizeLaws.{small-of, loop-short}
@@ -26,11 +24,11 @@ use Rattle.plans.proofs.ConcatLaws.{at-concat}
 use Rattle.planner.specs.declared.Planned.{Planned}
 use Rattle.planner.specs.declared.Planned.the-variants as P
 use Rattle.planner.specs.PlanOf.{plan-of}
-use Rattle.planner.specs.Planning.{LoopShown, Planning}
+use Rattle.planner.specs.Planning.{Planning}
 use Rattle.planner.specs.Calls.{planned-number, planned-length}
 use Rattle.planner.proofs.PassedPlan.{length-written, passes}
 use Rattle.planner.proofs.PlanningLaws.{at-zero, at-six, length-loop}
-use Rattle.text.specs.Texting.{wires-shown, wire-at, loop-whole, wire-fault, loop-fault}
+use Rattle.text.specs.Texting.{wires-shown, loop-whole, wire-fault, loop-fault}
 use Rattle.listings.specs.Listing.{answer-text, said-fault, said-text}
 
 -- the head of what lies over

@@ -1,20 +1,19 @@
 -- A plan whose figures fit their fields is read back from its bytes, and every byte of it is below 256. Assumes nothing.
 use mathlib.Core.Path.{_≡_, refl, sym, ap, _∙_}
-use mathlib.Core.List.{List, [], _∷_, _++_, append-nil}
-use Prim.Native.Nat.{ℕ, zero, suc, _+_, _*_, _<_, _≤_}
+use mathlib.Core.List.{List, [], _++_, append-nil}
+use Prim.Native.Nat.{ℕ, _+_, _*_, _<_}
 use native.Mathlib.Omega.{arith}
 use lib.Dec.{lit<}
 use lib.ListN.{length, getD, length-append}
 use lib.Seq.{getD-append-add}
 use lib.IntN.{ℤ}
 use lib.Signed.{mag}
-use Rattle.words.specs.Loops.{tab}
 use Rattle.words.specs.Words.{signed, residue}
 use Rattle.words.proofs.WordLaws.{residue-below, signed-residue}
-use Rattle.records.specs.Records.{at, two, low, high, fold-in, units-in, nodes-in, wires-in, unit-place, node-place, wire-place, whole-length, unit-at, node-at}
-use Rattle.records.proofs.ByteLaws.{low-high, low-below, high-below, two-back}
-use Rattle.plans.specs.Plan.{Plan, PlanUnit, PlanNode, Switch, no-unit, no-node, no-switch, unit-in, node-in, switch-in, plan-format, unit-bytes, node-bytes, switch-bytes, header-bytes, concat, plan-bytes, plan-unit-at, plan-node-at, switch-at, plan-read}
-use Rattle.plans.proofs.ConcatLaws.{tab-is, length-concat, at-concat, AllBytes, bytes-append, bytes-concat}
+use Rattle.records.specs.Records.{at, two, low, high, fold-in, units-in, nodes-in, wires-in, unit-place, node-place, wire-place, whole-length}
+use Rattle.records.proofs.ByteLaws.{low-high, two-back}
+use Rattle.plans.specs.Plan.{Plan, no-unit, no-node, no-switch, unit-in, node-in, switch-in, plan-format, unit-bytes, node-bytes, switch-bytes, header-bytes, concat, plan-bytes, plan-unit-at, plan-node-at, switch-at, plan-read}
+use Rattle.plans.proofs.ConcatLaws.{tab-is, length-concat, at-concat}
 
 -- the figures of a plan fit their two bytes
 pub record Narrow (p : Plan) : Type 0 where

@@ -6,7 +6,7 @@ use lib.Dec.{ltb, leb, eqb}
 use lib.ListN.{length}
 use Rattle.words.specs.Loops.{every, some-of, largest, unless, _then_}
 use Rattle.records.specs.Units.{unit-fits, inputs-of}
-use Rattle.records.specs.Records.{at, counts-fit, reading-fault, node-fits, clashes, runs-in, occupied, fed-once}
+use Rattle.records.specs.Records.{counts-fit, reading-fault, node-fits, clashes, runs-in, occupied, fed-once}
 use Rattle.plans.specs.Plan.{Plan, Switch, unit-in, node-in, switch-in, plan-format, plan-read}
 
 -- "its chain must be 0 to 47"

@@ -1,10 +1,10 @@
 -- The bytes of a record, and the judging that sheets and plans share: first fault wins. Assumes nothing.
-use mathlib.Core.Bool.{Bool, true, false, not, cond, _&&_, _||_}
-use mathlib.Core.List.{List, [], _∷_, _++_}
+use mathlib.Core.Bool.{Bool, _&&_, _||_}
+use mathlib.Core.List.{List, _++_}
 use Prim.Native.Nat.{ℕ, _+_, _*_, _/_, _%_}
 use lib.Dec.{ltb, leb, eqb}
 use lib.ListN.{length, getD, drop}
-use lib.IntN.{ℤ, natAbs}
+use lib.IntN.{natAbs}
 use Rattle.words.specs.Loops.{every, some-of, count, first, unless, _then_}
 use Rattle.words.specs.Words.{signed}
 use Rattle.records.specs.declared.Unit.{Unit}

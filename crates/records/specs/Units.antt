@@ -1,5 +1,5 @@
 -- Unit kinds and ops: the table of 01, "The graph's arithmetic". Assumes nothing.
-use mathlib.Core.Bool.{Bool, true, false, cond, _&&_}
+use mathlib.Core.Bool.{Bool, cond, _&&_}
 use Prim.Native.Nat.{ℕ}
 use lib.Dec.{leb, eqb}
 use lib.IntN.{ℤ, pos, negsuc}

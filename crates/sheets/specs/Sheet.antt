@@ -1,5 +1,5 @@
 -- A folding sheet, its reading from bytes, and the first fault of any bytes: 01, "Sheet bytes" and refusals 1 to 5. Assumes nothing.
-use mathlib.Core.Bool.{Bool, true, false, not, _&&_}
+use mathlib.Core.Bool.{Bool, not, _&&_}
 use mathlib.Core.List.{List, [], _∷_}
 use Prim.Native.Nat.{ℕ, _+_}
 use lib.Dec.{ltb, leb, eqb}

@@ -1,8 +1,7 @@
 -- What the theorems on folding ask of a sheet. Every well-formed sheet is so (`sound` in proofs/SheetLaws.antt). Assumes nothing.
 use mathlib.Core.Path.{_≡_}
-use Prim.Native.Nat.{ℕ, _<_, _≤_}
+use Prim.Native.Nat.{ℕ, _<_}
 use lib.ListN.{length}
-use Rattle.records.specs.Units.{inputs-of, op-port}
 use Rattle.sheets.specs.Sheet.{Sheet, unit-of, node-of, wire-of}
 
 -- its numbers name something, its depths are not 0, no two nodes share a slot of a unit

@@ -7,7 +7,6 @@ use native.Mathlib.Nat.{eq-or-lt-of-le}
 use native.Mathlib.Numerals.{add-one}
 use native.Mathlib.Omega.{arith}
 use Rattle.words.specs.Loops.{some-of, first, unless, _then_}
-use Rattle.words.proofs.LoopLaws.{passed?}
 
 pub then-split : (a b : ℕ) → (a then b) ≡ 0 → (a ≡ 0) × (b ≡ 0)
 then-split zero b h = (refl, h)
