@@ -1,5 +1,4 @@
 -- Laws.
-pub mod MarkLaws
 pub mod KeepLaws
 pub mod BackLaws
 pub mod FallLaws

@@ -17,19 +17,9 @@ pub record Reaches (g : Net) (d : ℕ → ℤ) (t : ℤ) (u c : ℕ) : Type 0 wh
   pub leaves : g .from c ≡ u
   pub comes : (g .bound c +ℤ d (g .to c)) ≤ℤ t
 
--- a row of choices: for every node that some wire reaches its total t by, such a wire
-abbrev pub Marked : Net → (ℕ → ℤ) → (ℕ → ℤ) → List ℕ → Type 0
-Marked g d t row = (u e : ℕ) → Reaches g d (t u) u e → Reaches g d (t u) u (getD row u 0)
-
 -- node u's total falls with round k + 1
 abbrev pub Falls : Net → ℕ → ℕ → Type 0
 Falls g k u = round g (suc k) u <ℤ round g k u
-
--- r is the first of n nodes whose total t is below d, or n
-pub record FirstBelow (d t : ℕ → ℤ) (n r : ℕ) : Type 0 where
-  pub within : r ≤ n
-  pub before : (v : ℕ) → v < r → d v ≤ℤ t v
-  pub found : r < n → t r <ℤ d r
 
 -- node r's total falls with the last of as many rounds as there are nodes, and for every round k + 1 the choices from place 48 k on have
 -- a wire for each node whose total falls with it

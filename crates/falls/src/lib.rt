@@ -1,78 +1,19 @@
 // A walk whose total still falls, for a sheet whose rounds do not settle: as many rounds are run as there are nodes, and for each node
-// and round a wire is kept by which its total was reached. Followed back from a node that fell with the last round, these are a walk of as
+// and round a wire is kept by which its total fell. Followed back from a node that fell with the last round, these are a walk of as
 // many wires as there are nodes, with a total below that of all shorter walks. Assumes nothing.
 ghost use mathlib.Core.Path.{_≡_};
-ghost use mathlib.Core.Bool.{cond, false};
-ghost use Prim.Native.Nat.{_*_, _<_, _≤_};
+ghost use mathlib.Core.Bool.{false};
+ghost use Prim.Native.Nat.{_*_, _≤_};
 ghost use lib.ListN.{length, take};
 ghost use Rattle.records.specs.Records.{most-nodes};
 ghost use Rattle.folding.specs.Walks.{foldable};
-ghost use Rattle.rounds.specs.Rounds.{number-at, bytes-net, Wired, SumsFit, Moderate};
-ghost use Rattle.falls.specs.Choices.{Marked, FirstBelow, Kept, back, Backed, Falling};
+ghost use Rattle.rounds.specs.Rounds.{bytes-net, Wired, Moderate};
+ghost use Rattle.falls.specs.Choices.{Kept, back, Backed, Falling};
 use rounds::Layout;
 use rounds::end_at;
 use rounds::no_totals;
-use rounds::round;
 use rounds::wide;
 use words::time::Iterations;
-
-// Wire e, or the choice that stands already.
-fn choice(stands: bool, old: u8, e: usize) -> u8
-    requires { ⌜ e < 256 ⌝ }
-    ensures { λ r. ⌜ r ≡ cond stands old e ⌝ }
-{
-    if stands { old } else { e as u8 }
-}
-
-// For every node a wire by which the next total is reached from the former ones, where there is one.
-fn mark(
-    b: &[u8],
-    at: usize,
-    wires: usize,
-    bounds: [Iterations; Layout::WIRES],
-    former: [Iterations; Layout::NODES],
-    next: [Iterations; Layout::NODES],
-    row: &mut [u8],
-)
-    requires { ⌜ Wired (now b) at most-nodes wires ⌝ }
-    requires { ⌜ SumsFit (bytes-net (now b) at most-nodes wires bounds) (number-at former) ⌝ }
-    requires { ⌜ most-nodes ≤ length (now row) ⌝ }
-    ensures { λ _. ⌜ Marked (bytes-net (now (b .entry)) at most-nodes wires bounds) (number-at former) (number-at next) (now (row .exit)) ⌝ }
-{
-    let mut e = 0;
-    while e < wires {
-        let u = end_at(b, at, e, Layout::FROM);
-        let v = end_at(b, at, e, Layout::TO);
-        let far = former[v];
-        let bound = bounds[e];
-        let total = next[u];
-        let beaten = total.below(bound.plus(far));
-        let old = row[u];
-        row[u] = choice(beaten, old, e);
-        e += 1;
-    }
-}
-
-// The first node whose total fell.
-fn fallen(
-    former: [Iterations; Layout::NODES],
-    totals: [Iterations; Layout::NODES],
-    nodes: usize,
-) -> usize
-    requires { ⌜ nodes ≤ most-nodes ⌝ }
-    ensures { λ r. ⌜ FirstBelow (number-at former) (number-at totals) nodes r ⌝ }
-{
-    let mut u = 0;
-    while u < nodes {
-        let old = former[u];
-        let total = totals[u];
-        if total.below(old) {
-            return u;
-        }
-        u += 1;
-    }
-    u
-}
 
 // The choices of as many rounds as there are nodes, and a node whose total fell with the last.
 fn keep(
@@ -89,20 +30,30 @@ fn keep(
     requires { ⌜ most-nodes * most-nodes ≤ length (now choices) ⌝ }
     ensures { λ r. ⌜ Kept (bytes-net (now (b .entry)) at nodes wires bounds) (now (choices .exit)) r ⌝ }
 {
-    let made = no_totals();
-    let mut former = made;
-    let mut totals = made;
+    let mut former = no_totals();
+    let mut totals = former;
+    let mut fell = 0;
     let mut k = 0;
+    let mut e = 0;
     while k < nodes {
-        let next = round(b, at, wires, bounds, totals);
-        let after = next.totals;
-        let row = Layout::NODES * k;
-        mark(b, at, wires, bounds, totals, after, &mut choices[row..]);
+        if e < wires {
+            let u = end_at(b, at, e, Layout::FROM);
+            let v = end_at(b, at, e, Layout::TO);
+            let sum = bounds[e].plus(former[v]);
+            let wire = e as u8;
+            e += 1;
+            if sum.below(totals[u]) {
+                totals[u] = sum;
+                choices[Layout::NODES * k + u] = wire;
+                fell = u;
+            }
+            continue;
+        }
         former = totals;
-        totals = after;
+        e = 0;
         k += 1;
     }
-    fallen(former, totals, nodes)
+    fell
 }
 
 // The choices followed back from node `first`, one for each round.

@@ -1,20 +1,17 @@
 -- The net that a sheet's wire records and their bounds say, read where they stand, and what the rounds over it are asked and answer.
 -- Assumes nothing.
 use mathlib.Core.Path.{_≡_}
-use mathlib.Core.Bool.{Bool, true}
+use mathlib.Core.Bool.{true}
 use mathlib.Core.List.{List}
 use Prim.Native.Nat.{ℕ, _+_, _*_, _<_, _≤_}
 use lib.ListN.{length, getD}
-use lib.IntN.{ℤ, pos, negsuc, _+ℤ_, _-ℤ_}
-use lib.Signed.{ltZ, _≤ℤ_}
-use mir.Syntax.{w32}
-use mir.Val.{SFits}
+use lib.IntN.{ℤ, pos, negsuc, _-ℤ_}
+use lib.Signed.{_≤ℤ_}
 use Rattle.words.specs.declared.time.Iterations.{Iterations}
-use Rattle.words.specs.Loops.{tab, some-of}
+use Rattle.words.specs.Loops.{tab}
 use Rattle.records.specs.Records.{most-nodes, most-wires}
 use Rattle.sheets.specs.Sheet.{sheet-format, wire-at, most-delays}
-use Rattle.folding.specs.Walks.{Net, better, chain, foldable, latest, deepest, start}
-use Rattle.rounds.specs.declared.Relaxed.{Relaxed}
+use Rattle.folding.specs.Walks.{Net, chain, foldable, latest, deepest, start}
 use Rattle.rounds.specs.declared.Settled.{Settled}
 use Rattle.rounds.specs.declared.Retimed.{Retimed}
 
@@ -44,19 +41,6 @@ pub record Wired (b : List ℕ) (at nodes wires : ℕ) : Type 0 where
   pub inside : at + sheet-format .wire-length * wires ≤ length b
   pub leaves : (e : ℕ) → e < wires → wire-at b (at + sheet-format .wire-length * e) .from < nodes
   pub meets : (e : ℕ) → e < wires → wire-at b (at + sheet-format .wire-length * e) .to < nodes
-
--- what each wire comes to fits
-abbrev pub SumsFit : Net → (ℕ → ℤ) → Type 0
-SumsFit g d = (e : ℕ) → e < g .wires → SFits w32 (g .bound e +ℤ d (g .to e))
-
--- "r(U) − r(V) ≤ c on every wire" does not hold of the totals d
-unfoldable pub unmet : Net → (ℕ → ℤ) → Bool
-unmet g d = some-of (g .wires) (λ e. ltZ (g .bound e +ℤ d (g .to e)) (d (g .from e)))
-
--- one round's answer: every node's better total from the totals d alone, and whether there was any
-pub record Improved (g : Net) (d : ℕ → ℤ) (r : Relaxed) : Type 0 where
-  pub totals : (u : ℕ) → number-at (r .totals) u ≡ better g d u (g .wires)
-  pub changed : r .changed ≡ unmet g d
 
 -- no bound is below −16 or above 63: "depth 1 to 16, delays 0 to 63"
 pub record Moderate (g : Net) : Type 0 where

@@ -10,7 +10,7 @@ ghost use mir.Val.{SFits};
 ghost use Rattle.records.specs.Records.{most-nodes};
 ghost use Rattle.sheets.specs.Sheet.{sheet-format};
 ghost use Rattle.folding.specs.Walks.{deepest};
-ghost use Rattle.rounds.specs.Rounds.{number-at, row-of, bytes-net, Wired, SumsFit, Improved, Moderate, Settling, shifted, Timed};
+ghost use Rattle.rounds.specs.Rounds.{number-at, row-of, bytes-net, Wired, Moderate, Settling, shifted, Timed};
 use words::time::Iterations;
 
 // Limits of a sheet, and where a wire's record has its two ends.
@@ -28,17 +28,23 @@ impl Layout {
     pub const TO: usize = 3;
 }
 
-// What one round makes of the former totals.
-pub struct Relaxed {
-    pub totals: [Iterations; Layout::NODES],
-    pub changed: bool,
-}
-
 // What the rounds come to, and how many there were.
 pub struct Settled {
     pub totals: [Iterations; Layout::NODES],
     pub rounds: u8,
     pub settled: bool,
+}
+
+impl Settled {
+    pub fn new(totals: [Iterations; Layout::NODES], rounds: u8, settled: bool) -> Self
+        ensures { λ r. ⌜ r ≡ record { totals = totals; rounds = rounds; settled = settled } ⌝ }
+    {
+        Self {
+            totals,
+            rounds,
+            settled,
+        }
+    }
 }
 
 // The latest retiming: starts, and the rounds that it took.
@@ -62,36 +68,6 @@ pub fn end_at(b: &[u8], at: usize, e: usize, side: usize) -> usize
     wide(b[at + Layout::RECORD * e + side])
 }
 
-// One round: for every wire the better total of its first end, from the former totals alone, and whether some bound was not met.
-pub fn round(
-    b: &[u8],
-    at: usize,
-    wires: usize,
-    bounds: [Iterations; Layout::WIRES],
-    former: [Iterations; Layout::NODES],
-) -> Relaxed
-    requires { ⌜ Wired (now b) at most-nodes wires ⌝ }
-    requires { ⌜ SumsFit (bytes-net (now b) at most-nodes wires bounds) (number-at former) ⌝ }
-    ensures { λ r. ⌜ Improved (bytes-net (now (b .entry)) at most-nodes wires bounds) (number-at former) r ⌝ }
-{
-    let mut totals = former;
-    let mut changed = false;
-    let mut e = 0;
-    while e < wires {
-        let u = end_at(b, at, e, Layout::FROM);
-        let v = end_at(b, at, e, Layout::TO);
-        let old = former[u];
-        let near = totals[u];
-        let far = former[v];
-        let bound = bounds[e];
-        let sum = bound.plus(far);
-        totals[u] = near.lesser(sum);
-        changed = changed | sum.below(old);
-        e += 1;
-    }
-    Relaxed { totals, changed }
-}
-
 // The empty walk counts 0.
 pub fn no_totals() -> [Iterations; Layout::NODES]
     ensures { λ r. ⌜ ((u : ℕ) → number-at r u ≡ pos 0) ⌝ }
@@ -99,7 +75,8 @@ pub fn no_totals() -> [Iterations; Layout::NODES]
     [Iterations::zero(); Layout::NODES]
 }
 
-// Rounds until nothing changes, at most as many as there are nodes.
+// Rounds until nothing changes, at most as many as there are nodes. A turn takes wire e of round k + 1, which reads the former totals
+// alone, or closes the round.
 pub fn settle(
     b: &[u8],
     at: usize,
@@ -111,27 +88,32 @@ pub fn settle(
     requires { ⌜ Moderate (bytes-net (now b) at nodes wires bounds) ⌝ }
     ensures { λ r. ⌜ Settling (bytes-net (now (b .entry)) at nodes wires bounds) r ⌝ }
 {
-    let made = no_totals();
-    let mut totals = made;
+    let mut former = no_totals();
+    let mut totals = former;
+    let mut changed = false;
     let mut k = 0;
+    let mut e = 0;
     while k < nodes {
-        let next = round(b, at, wires, bounds, totals);
-        if !next.changed {
-            return Settled {
-                totals,
-                rounds: k as u8,
-                settled: true,
-            };
+        if e < wires {
+            let u = end_at(b, at, e, Layout::FROM);
+            let v = end_at(b, at, e, Layout::TO);
+            let sum = bounds[e].plus(former[v]);
+            e += 1;
+            if sum.below(totals[u]) {
+                totals[u] = sum;
+                changed = true;
+            }
+            continue;
         }
-        let after = next.totals;
-        totals = after;
+        if !changed {
+            break;
+        }
+        former = totals;
+        changed = false;
+        e = 0;
         k += 1;
     }
-    Settled {
-        totals,
-        rounds: nodes as u8,
-        settled: false,
-    }
+    Settled::new(totals, k as u8, k < nodes)
 }
 
 // The least of the first totals, none of which is above 0.
