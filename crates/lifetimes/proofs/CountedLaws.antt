@@ -1,8 +1,8 @@
 -- One live cycle more in its slot. Assumes nothing.
-use mathlib.Core.Path.{_≡_, refl, sym, ap, _∙_}
+use mathlib.Core.Path.{_≡_, sym, ap, _∙_}
 use mathlib.Core.Bool.{Bool, true, false, cond}
 use mathlib.Core.List.{List}
-use Prim.Native.Nat.{ℕ, suc, _+_, _%_, _<_, _≤_}
+use Prim.Native.Nat.{ℕ, _+_, _%_, _<_, _≤_}
 use native.Mathlib.Nat.{mod-lt, mod-eq-of-lt}
 use native.Mathlib.Numerals.{add-one}
 use native.Mathlib.Decide.{ℕ-discrete}
@@ -13,7 +13,14 @@ use lib.Seq.{getD-set-same, getD-set-other}
 use borrow.Author.Tests.{eq-eqb, ne-eqb, le-ltb}
 use Rattle.folding.specs.Lifetime.{offset}
 use Rattle.folding.proofs.LiveLaws.{slot-iff, step-test}
-use Rattle.lifetimes.specs.Counts.{Counted, Small}
+
+-- none of the first n counts is above m
+abbrev pub Small : ℕ → List ℕ → ℕ → Type 0
+Small n counts m = (t : ℕ) → t < n → getD counts t 0 ≤ m
+
+-- the counts r are those before with `rest` live cycles more from cycle `first` on, fewer than a round: one in each slot that they reach
+abbrev pub Counted : ℕ → ℕ → ℕ → List ℕ → List ℕ → Type 0
+Counted fold first rest counts r = (t : ℕ) → t < fold → getD r t 0 ≡ getD counts t 0 + cond (ltb (offset fold first t) rest) 1 0
 
 -- a count raised by one
 raised : (l : List ℕ) (k t : ℕ) → k < length l → getD (set l k (getD l k 0 + 1)) t 0 ≡ getD l t 0 + cond (eqb k t) 1 0

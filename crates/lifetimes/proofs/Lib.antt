@@ -1,3 +1,4 @@
 -- Laws.
 pub mod CountedLaws
 pub mod LiveSums
+pub mod Underway

@@ -2,13 +2,13 @@
 use mathlib.Core.Path.{_≡_, refl, sym, ap, ap₂, _∙_}
 use mathlib.Core.Bool.{Bool, true, false, cond}
 use mathlib.Core.List.{List}
-use Prim.Native.Nat.{ℕ, zero, suc, _+_, _*_, _-_, _/_, _%_, _^_, _<_, _≤_, max}
+use Prim.Native.Nat.{ℕ, zero, suc, _+_, _*_, _-_, _/_, _%_, _^_, _<_, _≤_}
 use native.Mathlib.Nat.{div-lt-iff-lt-mul}
 use native.Mathlib.Numerals.{add-one}
 use native.Mathlib.Omega.{arith}
 use lib.Dec.{ltb}
 use lib.ListN.{length, getD}
-use lib.IntN.{pos, natAbs}
+use lib.IntN.{pos}
 use Rattle.words.specs.declared.time.Cycles.{Cycles}
 use Rattle.words.specs.Loops.{total, largest}
 use Rattle.words.specs.Times.{cycles-at}
@@ -25,7 +25,7 @@ use Rattle.folding.proofs.SizeLaws.{small-of, last-lt, registers-fit}
 use Rattle.waits.specs.Fine.{Fine, Longest, from-node}
 use Rattle.waits.proofs.FineLaws.{passed-so, sound-so, nodes-so, few-nodes}
 use Rattle.lifetimes.specs.declared.Live.{Live}
-use Rattle.lifetimes.specs.Counts.{Counted, wait-of, rounds-of, rest-of, LiveOf}
+use Rattle.lifetimes.specs.Counts.{wait-of, rounds-of, rest-of, LiveOf}
 
 -- a total of bits is at most their number
 bits-le : (n : ℕ) (p : ℕ → Bool) → total n (λ x. cond (p x) 1 0) ≤ n

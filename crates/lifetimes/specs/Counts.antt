@@ -2,23 +2,15 @@
 use mathlib.Core.Path.{_≡_}
 use mathlib.Core.Bool.{cond}
 use mathlib.Core.List.{List}
-use Prim.Native.Nat.{ℕ, _+_, _/_, _%_, _<_, _≤_}
+use Prim.Native.Nat.{ℕ, _/_, _%_, _<_}
 use lib.Dec.{ltb}
-use lib.ListN.{length, getD}
+use lib.ListN.{getD}
 use Rattle.words.specs.Loops.{total}
 use Rattle.sheets.specs.Sheet.{sheet-of}
 use Rattle.folding.specs.Walks.{start}
 use Rattle.folding.specs.Folding.{net}
 use Rattle.folding.specs.Lifetime.{longest-wait, first-live, offset}
 use Rattle.lifetimes.specs.declared.Live.{Live}
-
--- none of the first n counts is above m
-abbrev pub Small : ℕ → List ℕ → ℕ → Type 0
-Small n counts m = (t : ℕ) → t < n → getD counts t 0 ≤ m
-
--- the counts r are those before with `rest` live cycles more from cycle `first` on, fewer than a round: one in each slot that they reach
-abbrev pub Counted : ℕ → ℕ → ℕ → List ℕ → List ℕ → Type 0
-Counted fold first rest counts r = (t : ℕ) → t < fold → getD r t 0 ≡ getD counts t 0 + cond (ltb (offset fold first t) rest) 1 0
 
 -- the longest wait of node x, after the starts
 abbrev pub wait-of : List ℕ → ℕ → ℕ

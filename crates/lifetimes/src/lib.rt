@@ -9,7 +9,7 @@ ghost use Rattle.folding.specs.Walks.{start, foldable};
 ghost use Rattle.folding.specs.Folding.{net};
 ghost use Rattle.folding.specs.Lifetime.{first-live, registers};
 ghost use Rattle.waits.specs.Fine.{Fine, Longest, from-node};
-ghost use Rattle.lifetimes.specs.Counts.{Counted, Small, LiveOf};
+ghost use Rattle.lifetimes.specs.Counts.{LiveOf};
 use sheets::Sheet;
 use words::time::Cycles;
 
@@ -26,25 +26,6 @@ fn next_slot(t: u32, fold: u32) -> u32
     ensures { λ r. ⌜ r ≡ (t + 1) % fold ⌝ }
 {
     if t + 1 == fold { 0 } else { t + 1 }
-}
-
-// The counts with `rest` live cycles more, from cycle `first` on; they are fewer than a round.
-fn with_rest(counts: [u32; 32], fold: u32, first: u32, rest: u32) -> [u32; 32]
-    requires { ⌜ (0 < fold) × (fold ≤ 32) ⌝ }
-    requires { ⌜ rest < fold ⌝ }
-    requires { ⌜ Small fold counts 1000 ⌝ }
-    ensures { λ r. ⌜ Counted fold first rest counts r ⌝ }
-{
-    let mut live = counts;
-    let mut t = first % fold;
-    let mut i = 0;
-    while i < rest {
-        let k = t as usize;
-        live[k] = live[k] + 1;
-        t = next_slot(t, fold);
-        i += 1;
-    }
-    live
 }
 
 // The largest of the first counts.
@@ -85,6 +66,7 @@ pub struct Live {
     pub turns: u32,
 }
 
+// A turn counts one of the `rest` cycles that are left of a wait, in slot t, or goes on to the next node.
 pub fn live_counts(b: &[u8], sheet: Sheet, longest: [Cycles; 48]) -> Live
     requires { ⌜ Fine (now b) sheet ⌝ }
     requires { ⌜ foldable (net (sheet-of (now b))) ≡ true ⌝ }
@@ -95,16 +77,20 @@ pub fn live_counts(b: &[u8], sheet: Sheet, longest: [Cycles; 48]) -> Live
     let fold = sheet.fold;
     let mut counts = [0u32; 32];
     let mut turns = 0;
+    let mut t = 0;
+    let mut rest = 0;
     let mut x = 0;
-    while x < nodes {
+    while (0 < rest) | (x < nodes) {
+        if 0 < rest {
+            let k = t as usize;
+            counts[k] = counts[k] + 1;
+            t = next_slot(t, fold as u32);
+            rest -= 1;
+            continue;
+        }
         let wait = longest[x];
-        let next = with_rest(
-            counts,
-            fold as u32,
-            first_live(b, sheet, x),
-            wait.rest(fold),
-        );
-        counts = next;
+        t = first_live(b, sheet, x) % (fold as u32);
+        rest = wait.rest(fold);
         turns += wait.turns(fold);
         x += 1;
     }
