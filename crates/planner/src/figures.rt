@@ -7,7 +7,6 @@ use lifetimes::live_counts;
 use sheets::Sheet;
 use sheets::judging::SheetRead;
 use sheets::judging::judge;
-use waits::longest_waits;
 use words::time::Cycles;
 use words::time::Iterations;
 
@@ -25,8 +24,8 @@ fn live_judged(b: &[u8], sheet: Sheet, slot: u8) -> u32
         return 0;
     }
     let starts = timed.starts;
-    let waits = waits::waits(b, sheet, starts, [Cycles::zero(); Sheet::MOST_WIRES]);
-    let longest = longest_waits(b, sheet, waits);
+    let waited = waits::waits(b, sheet, starts, [Cycles::zero(); Sheet::MOST_WIRES]);
+    let longest = waited.longest;
     let live = live_counts(b, sheet, longest);
     let counts = live.counts;
     counts[slot as usize] + live.turns

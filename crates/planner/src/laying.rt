@@ -59,11 +59,10 @@ pub fn write_units(
     ensures { λ r. ⌜ now (out .exit) ≡ laid (now (out .entry)) at (unit-records (now (b .entry)) (sheet .units)) ⌝ }
 {
     let units = sheet.units as usize;
-    let occupied = slots.occupied;
     let mut q = 0;
     while q < units {
         let unit = sheets::unit_of(b, sheet, q);
-        let idle = idle_of(sheet.fold, occupied[q]);
+        let idle = idle_of(sheet.fold, slots.occupied[q]);
         write_unit(out, at + Plan::UNIT * q, unit, lines[q], idle);
         q += 1;
     }

@@ -29,8 +29,6 @@ use sheets::Sheet;
 use sheets::judging::SheetRead;
 use sheets::judging::judge;
 use sheets::judging::slots_of;
-use waits::lines;
-use waits::longest_waits;
 use words::time::Cycles;
 use words::time::Iterations;
 use writing::write_header;
@@ -89,12 +87,13 @@ fn write_plan(
     ensures { λ r. ⌜ now (out .exit) ≡ over (plan-bytes (plan-of (sheet-of (now (b .entry))))) (now (out .entry)) ⌝ }
 {
     let plan = plan_head(sheet);
-    let waits = waits::waits(b, sheet, starts, made);
-    let longest = longest_waits(b, sheet, waits);
+    let waited = waits::waits(b, sheet, starts, made);
+    let longest = waited.longest;
     write_header(out, plan, registers(b, sheet, longest), rounds);
-    let lines = lines(b, sheet, waits);
+    let lines = waited.lines;
     write_units(b, sheet, lines, slots_of(b, sheet), plan.unit_place(0), out);
     write_nodes(b, sheet, starts, plan.node_place(0), out);
+    let waits = waited.waits;
     write_switches(b, sheet, waits, plan.switch_place(0), out);
 }
 

@@ -16,6 +16,7 @@ use Rattle.sheets.specs.Sheet.{Sheet, node-of, wire-of, sheet-of, sheet-fault}
 use Rattle.sheets.specs.Answers.{Whole}
 use Rattle.folding.specs.Walks.{start, foldable}
 use Rattle.folding.specs.Folding.{net, tap}
+use Rattle.waits.specs.declared.Waited.{Waited}
 
 -- the bytes b have no fault, and s is their header
 pub record Fine (b : List ℕ) (s : Head.Sheet) : Type 0 where
@@ -42,6 +43,12 @@ from-node b e = wire-of (sheet-of b) e .from
 
 abbrev pub from-unit : List ℕ → ℕ → ℕ
 from-unit b e = node-of (sheet-of b) (wire-of (sheet-of b) e .from) .unit
+
+-- what the wires wait, by wire, by node and by unit
+pub record Waiting (b : List ℕ) (r : Waited) : Type 0 where
+  pub tapped : Tapped b (r .waits)
+  pub longest : Longest b (from-node b) 48 (r .longest)
+  pub lines : Longest b (from-unit b) 8 (r .lines)
 
 -- a start's range, as far as a wait's size asks it
 abbrev pub Near : ℤ → Type 0

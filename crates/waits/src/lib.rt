@@ -2,11 +2,10 @@
 ghost use mathlib.Core.Path.{_≡_};
 ghost use Prim.Native.Nat.{ℕ, _<_, _≤_};
 ghost use lib.IntN.{pos, _+ℤ_, _-ℤ_, _*ℤ_};
-ghost use lib.Signed.{_≤ℤ_};
 ghost use Rattle.words.specs.Times.{iterations-at, cycles-at};
 ghost use Rattle.sheets.specs.Sheet.{sheet-of};
 ghost use Rattle.folding.specs.Folding.{raw, bound};
-ghost use Rattle.waits.specs.Fine.{Fine, Started, Tapped, Longest, from-node, from-unit, Near};
+ghost use Rattle.waits.specs.Fine.{Fine, Started, Waiting, Near};
 use sheets::Sheet;
 use words::time::Cycles;
 use words::time::Iterations;
@@ -49,23 +48,11 @@ fn wait_of(b: &[u8], sheet: Sheet, e: usize, from: Iterations, to: Iterations) -
     raw_wait(b, sheet, e).plus(to.minus(from).cycles(sheet.fold))
 }
 
-// The waits of all wires after the starts.
-pub fn waits(b: &[u8], sheet: Sheet, starts: [Iterations; 48], made: [Cycles; 96]) -> [Cycles; 96]
-    requires { ⌜ Fine (now b) sheet ⌝ }
-    requires { ⌜ Started (now b) starts ⌝ }
-    ensures { λ r. ⌜ Tapped (now (b .entry)) r ⌝ }
-{
-    let wires = sheet.wires as usize;
-    let mut waits = made;
-    let mut e = 0;
-    while e < wires {
-        let wire = sheets::wire_of(b, sheet, e);
-        let from = wire.from as usize;
-        let to = wire.to as usize;
-        waits[e] = wait_of(b, sheet, e, starts[from], starts[to]);
-        e += 1;
-    }
-    waits
+// The waits of all wires, the longest of those that leave each node, and the length of each unit's line: the longest tap that reads it.
+pub struct Waited {
+    pub waits: [Cycles; 96],
+    pub longest: [Cycles; 48],
+    pub lines: [Cycles; 8],
 }
 
 // No waits yet.
@@ -81,43 +68,31 @@ fn no_lines() -> [Cycles; 8]
     [Cycles::zero(); 8]
 }
 
-// The longest wait of the wires that leave each node.
-pub fn longest_waits(b: &[u8], sheet: Sheet, waits: [Cycles; 96]) -> [Cycles; 48]
+// What the wires wait after the starts.
+pub fn waits(b: &[u8], sheet: Sheet, starts: [Iterations; 48], made: [Cycles; 96]) -> Waited
     requires { ⌜ Fine (now b) sheet ⌝ }
-    requires { ⌜ Tapped (now b) waits ⌝ }
-    ensures { λ r. ⌜ Longest (now (b .entry)) (from-node (now (b .entry))) 48 r ⌝ }
+    requires { ⌜ Started (now b) starts ⌝ }
+    ensures { λ r. ⌜ Waiting (now (b .entry)) r ⌝ }
 {
     let wires = sheet.wires as usize;
-    let made = no_waits();
-    let mut longest = made;
+    let mut waits = made;
+    let mut longest = no_waits();
+    let mut lines = no_lines();
     let mut e = 0;
     while e < wires {
         let wire = sheets::wire_of(b, sheet, e);
         let from = wire.from as usize;
-        let old = longest[from];
-        longest[from] = old.larger(waits[e]);
+        let to = wire.to as usize;
+        let unit = sheets::node_of(b, sheet, from).unit as usize;
+        let wait = wait_of(b, sheet, e, starts[from], starts[to]);
+        waits[e] = wait;
+        longest[from] = longest[from].larger(wait);
+        lines[unit] = lines[unit].larger(wait);
         e += 1;
     }
-    longest
-}
-
-// The length of each unit's line: the longest tap that reads it.
-pub fn lines(b: &[u8], sheet: Sheet, waits: [Cycles; 96]) -> [Cycles; 8]
-    requires { ⌜ Fine (now b) sheet ⌝ }
-    requires { ⌜ Tapped (now b) waits ⌝ }
-    ensures { λ r. ⌜ Longest (now (b .entry)) (from-unit (now (b .entry))) 8 r ⌝ }
-{
-    let wires = sheet.wires as usize;
-    let made = no_lines();
-    let mut lines = made;
-    let mut e = 0;
-    while e < wires {
-        let wire = sheets::wire_of(b, sheet, e);
-        let node = sheets::node_of(b, sheet, wire.from as usize);
-        let unit = node.unit as usize;
-        let old = lines[unit];
-        lines[unit] = old.larger(waits[e]);
-        e += 1;
+    Waited {
+        waits,
+        longest,
+        lines,
     }
-    lines
 }

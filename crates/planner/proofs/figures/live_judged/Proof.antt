@@ -34,11 +34,8 @@ zero-requires-2 c κs = search needs
 waits-requires : tie.Need-waits-requires
 waits-requires c κs = (c .before .before .before .before .before .before .before .before .before .before .pre, c .before .before .before .before .retime-sheet .ensures .started (not-false _ (c .before .before .if2 .left)))
 
-longest-waits-requires : tie.Need-longest-waits-requires
-longest-waits-requires c κs = search needs
-
 live-counts-requires : tie.Need-live-counts-requires
-live-counts-requires c κs = (c .before .before .before .before .before .before .before .before .before .before .before .before .pre, (sym (c .before .before .before .before .before .before .retime-sheet .ensures .settled) ∙ not-false _ (c .before .before .before .before .if2 .left), c .longest-waits .ensures))
+live-counts-requires c κs = (c .before .before .before .before .before .before .before .before .before .before .before .before .pre, (sym (c .before .before .before .before .before .before .retime-sheet .ensures .settled) ∙ not-false _ (c .before .before .before .before .if2 .left), c .before .waits .ensures .longest))
 
 mul-result : tie.Need-mul-result
 mul-result c = search needs
@@ -71,7 +68,6 @@ live-judged-spec =
     returns-2
     zero-requires-2
     waits-requires
-    longest-waits-requires
     live-counts-requires
     mul-result
     array-read-result
