@@ -1,5 +1,5 @@
 -- One wire more, and one round more, of choices: a node whose total falls keeps the wire by which it fell. Assumes nothing.
-use mathlib.Core.Path.{_≡_, refl, sym, ap, _∙_, subst}
+use mathlib.Core.Path.{_≡_, refl, sym, _∙_, subst}
 use mathlib.Core.Logic.{_⊎_, inl, inr}
 use mathlib.Core.Bool.{true, false, true≢false}
 use mathlib.Core.List.{List}

@@ -1,19 +1,17 @@
 -- The net that a sheet's wire records and their bounds say, read where they stand, and what the rounds over it are asked and answer.
 -- Assumes nothing.
 use mathlib.Core.Path.{_≡_}
-use mathlib.Core.Bool.{Bool, true}
+use mathlib.Core.Bool.{true}
 use mathlib.Core.List.{List}
 use Prim.Native.Nat.{ℕ, _+_, _*_, _<_, _≤_}
 use lib.ListN.{length, getD}
-use lib.IntN.{ℤ, pos, negsuc, _+ℤ_, _-ℤ_}
-use lib.Signed.{ltZ, _≤ℤ_}
-use mir.Syntax.{w32}
-use mir.Val.{SFits}
+use lib.IntN.{ℤ, pos, negsuc, _-ℤ_}
+use lib.Signed.{_≤ℤ_}
 use Rattle.words.specs.declared.time.Iterations.{Iterations}
-use Rattle.words.specs.Loops.{tab, some-of}
+use Rattle.words.specs.Loops.{tab}
 use Rattle.records.specs.Records.{most-nodes, most-wires}
 use Rattle.sheets.specs.Sheet.{sheet-format, wire-at, most-delays}
-use Rattle.folding.specs.Walks.{Net, better, chain, foldable, latest, deepest, start}
+use Rattle.folding.specs.Walks.{Net, chain, foldable, latest, deepest, start}
 use Rattle.rounds.specs.declared.Settled.{Settled}
 use Rattle.rounds.specs.declared.Retimed.{Retimed}
 

@@ -2,7 +2,6 @@
 ghost use mathlib.Core.Path.{_≡_};
 ghost use Prim.Native.Nat.{ℕ, _<_, _≤_};
 ghost use lib.IntN.{pos, _+ℤ_, _-ℤ_, _*ℤ_};
-ghost use lib.Signed.{_≤ℤ_};
 ghost use Rattle.words.specs.Times.{iterations-at, cycles-at};
 ghost use Rattle.sheets.specs.Sheet.{sheet-of};
 ghost use Rattle.folding.specs.Folding.{raw, bound};

@@ -1,6 +1,6 @@
 -- `waits::waits` meets its contract: the wait between the starts of each wire is its tap, and the longest so far is kept for its node and its
 -- unit. Assumes nothing.
-use Prim.Native.Nat.{ℕ, _+_, _-_, _<_, _≤_}
+use Prim.Native.Nat.{ℕ, _-_, _<_, _≤_}
 use mathlib.Core.Path.{_≡_, refl, ap, _∙_}
 use mathlib.Core.Bool.{cond}
 use native.Mathlib.Omega.{arith}
