@@ -13,13 +13,6 @@ ghost use Rattle.lifetimes.specs.Counts.{LiveOf};
 use sheets::Sheet;
 use words::time::Cycles;
 
-pub struct Counts {}
-
-impl Counts {
-    // N is at most this.
-    pub const SLOTS: usize = 32;
-}
-
 // The slot after t.
 fn next_slot(t: u32, fold: u32) -> u32
     requires { ⌜ (t < fold) × (fold ≤ 32) ⌝ }
@@ -29,7 +22,7 @@ fn next_slot(t: u32, fold: u32) -> u32
 }
 
 // The largest of the first counts.
-pub fn most(counts: [u32; 32], fold: usize) -> u32
+pub fn most(counts: [u32; Sheet::MOST_FOLD], fold: usize) -> u32
     requires { ⌜ fold ≤ 32 ⌝ }
     ensures { λ r. ⌜ r ≡ largest fold (λ t. getD counts t 0) ⌝ }
 {
@@ -62,12 +55,12 @@ fn first_live(b: &[u8], sheet: Sheet, x: usize) -> u32
 
 // The live cycles of all nodes: the whole rounds, which count in every slot, and what is left by slots.
 pub struct Live {
-    pub counts: [u32; 32],
+    pub counts: [u32; Sheet::MOST_FOLD],
     pub turns: u32,
 }
 
 // A turn counts one of the `rest` cycles that are left of a wait, in slot t, or goes on to the next node.
-pub fn live_counts(b: &[u8], sheet: Sheet, longest: [Cycles; 48]) -> Live
+pub fn live_counts(b: &[u8], sheet: Sheet, longest: [Cycles; Sheet::MOST_NODES]) -> Live
     requires { ⌜ Fine (now b) sheet ⌝ }
     requires { ⌜ foldable (net (sheet-of (now b))) ≡ true ⌝ }
     requires { ⌜ Longest (now b) (from-node (now b)) 48 longest ⌝ }
@@ -75,7 +68,7 @@ pub fn live_counts(b: &[u8], sheet: Sheet, longest: [Cycles; 48]) -> Live
 {
     let nodes = sheet.nodes as usize;
     let fold = sheet.fold;
-    let mut counts = [0u32; 32];
+    let mut counts = [0u32; Sheet::MOST_FOLD];
     let mut turns = 0;
     let mut t = 0;
     let mut rest = 0;
@@ -98,7 +91,7 @@ pub fn live_counts(b: &[u8], sheet: Sheet, longest: [Cycles; 48]) -> Live
 }
 
 // The register figure: the largest live count of any slot.
-pub fn registers(b: &[u8], sheet: Sheet, longest: [Cycles; 48]) -> u16
+pub fn registers(b: &[u8], sheet: Sheet, longest: [Cycles; Sheet::MOST_NODES]) -> u16
     requires { ⌜ Fine (now b) sheet ⌝ }
     requires { ⌜ foldable (net (sheet-of (now b))) ≡ true ⌝ }
     requires { ⌜ Longest (now b) (from-node (now b)) 48 longest ⌝ }

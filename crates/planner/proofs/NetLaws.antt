@@ -13,7 +13,7 @@ use Rattle.records.specs.Answers.{wire-run}
 use Rattle.sheets.specs.declared.Sheet as Head
 use Rattle.sheets.specs.Sheet.{sheet-format, sheet-of}
 use Rattle.sheets.proofs.HeldLaws.{units-said, nodes-said, wires-said}
-use Rattle.folding.specs.Walks.{Net, foldable, chain}
+use Rattle.folding.specs.Walks.{Net, foldable}
 use Rattle.folding.specs.Folding.{net, bound}
 use Rattle.folding.proofs.AlikeLaws.{Alike, foldable-cong, chain-cong, starts-cong}
 use Rattle.rounds.specs.declared.Retimed.{Retimed}

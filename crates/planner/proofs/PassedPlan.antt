@@ -1,31 +1,27 @@
 -- The plan of a passed sheet that folds: it fits its fields, is read back from its bytes, and passes the machine's judging.
 -- Assumes nothing.
-use mathlib.Core.Path.{_≡_, refl, sym, ap, _∙_, subst}
-use mathlib.Core.Logic.{_⊎_, inl, inr}
-use mathlib.Core.Bool.{Bool, true, false, cond}
-use mathlib.Core.List.{List, [], _∷_, _++_}
-use Prim.Native.Nat.{ℕ, suc, _+_, _*_, _-_, _<_, _≤_}
+use mathlib.Core.Path.{_≡_, _∙_}
+use mathlib.Core.Logic.{inl, inr}
+use mathlib.Core.Bool.{cond}
+use mathlib.Core.List.{List, _++_}
+use Prim.Native.Nat.{ℕ, _+_, _*_, _-_, _<_}
 use native.Mathlib.Omega.{arith}
 use lib.Dec.{eqb, lit<}
-use lib.ListN.{length, getD}
-use lib.Signed.{mag}
-use Rattle.words.specs.Loops.{largest}
+use lib.ListN.{length}
 use Rattle.words.specs.Words.{residue}
 use Rattle.words.proofs.LoopLaws.{passed?, largest-le}
-use Rattle.records.specs.declared.Node.{Node}
-use Rattle.records.specs.Units.{inputs, kind-of, inputs-of, port, adder}
-use Rattle.records.specs.Records.{whole-length}
+use Rattle.records.specs.Units.{kind-of}
 use Rattle.records.proofs.NodeLaws.{k-narrow, inputs-few}
 use Rattle.records.proofs.ByteLaws.{low-below, high-below}
-use Rattle.sheets.specs.Sheet.{Sheet, sheet-of, unit-of, node-of, wire-of}
+use Rattle.sheets.specs.Sheet.{Sheet, sheet-of, node-of, wire-of}
 use Rattle.sheets.proofs.SheetLaws.{Passed, counts-of, unit-parts, node-parts, wire-parts, sound, fold-is, units-is, nodes-is, wires-is}
-use Rattle.folding.specs.Walks.{Loop, start, chain}
+use Rattle.folding.specs.Walks.{start}
 use Rattle.folding.specs.Folding.{net, tap}
 use Rattle.folding.proofs.FoldingLaws.{Foldable}
-use Rattle.folding.proofs.SizeLaws.{small-of, start-le, tap-fits, registers-fit, loop-short}
-use Rattle.plans.specs.Plan.{Plan, PlanUnit, PlanNode, Switch, no-unit, no-node, no-switch, unit-in, node-in, switch-in, plan-format, unit-bytes, node-bytes, switch-bytes, header-bytes, concat, plan-bytes, loop-bytes, plan-read}
+use Rattle.folding.proofs.SizeLaws.{small-of, start-le, tap-fits, registers-fit}
+use Rattle.plans.specs.Plan.{Plan, no-unit, no-node, no-switch, unit-bytes, node-bytes, switch-bytes, header-bytes, concat, plan-bytes, plan-read}
 use Rattle.plans.specs.Judging.{longest-tap, plan-fault}
-use Rattle.plans.proofs.ConcatLaws.{AllBytes, bytes-append, bytes-concat, length-concat}
+use Rattle.plans.proofs.ConcatLaws.{AllBytes, bytes-append, bytes-concat}
 use Rattle.plans.proofs.PlanBytes.{Narrow, plan-back, length-plan}
 use Rattle.plans.proofs.JudgingLaws.{plan-faultless}
 use Rattle.planner.specs.PlanOf.{plan-unit, plan-node, plan-switch, plan-with, plan-of}

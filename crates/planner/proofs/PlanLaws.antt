@@ -1,20 +1,17 @@
 -- The plan with starts that make every wait nonnegative folds the sheet. Assumes nothing.
-use mathlib.Core.Path.{_≡_, refl, sym, ap, _∙_, subst}
-use Prim.Native.Nat.{ℕ, _+_, _*_, _<_, _≤_}
+use mathlib.Core.Path.{_≡_, refl, ap, _∙_}
+use Prim.Native.Nat.{ℕ, _+_, _*_, _<_}
 use native.Mathlib.Omega.{arith}
-use lib.ListN.{length, getD}
+use lib.ListN.{length}
 use lib.IntN.{ℤ, pos, _+ℤ_, _-ℤ_, _*ℤ_}
 use Rattle.words.proofs.Ints.{up, down, sumℤ, difℤ, timesℤ, up-eq}
 use Rattle.words.proofs.LoopLaws.{length-tab, getD-tab}
-use Rattle.records.specs.declared.Unit.{Unit}
-use Rattle.records.specs.declared.Node.{Node}
-use Rattle.sheets.specs.Sheet.{Sheet, unit-of, node-of, wire-of}
+use Rattle.sheets.specs.Sheet.{Sheet, node-of, wire-of}
 use Rattle.sheets.specs.Sound.{Sound}
 use Rattle.folding.specs.Walks.{start}
 use Rattle.folding.specs.Folding.{net, depth-of, raw, wait, tap}
 use Rattle.folding.proofs.FoldingLaws.{Foldable}
-use Rattle.plans.specs.Plan.{Plan, PlanUnit, PlanNode, Switch, no-unit, no-node, no-switch, unit-in, node-in, switch-in}
-use Rattle.plans.specs.Judging.{longest-tap}
+use Rattle.plans.specs.Plan.{PlanUnit, PlanNode, Switch, no-unit, no-node, no-switch, unit-in, node-in, switch-in}
 use Rattle.plans.proofs.JudgingLaws.{longest-tap-ge}
 use Rattle.planner.specs.PlanOf.{plan-unit, plan-node, plan-switch, plan-with, plan-of}
 use Rattle.planner.specs.Folds.{Folds}

@@ -2,28 +2,27 @@
 use mathlib.Core.Path.{_≡_, refl, sym, ap, ap₂, _∙_}
 use mathlib.Core.Bool.{Bool, true, false, cond, _&&_}
 use mathlib.Core.List.{List}
-use Prim.Native.Nat.{ℕ, _+_, _-_, _<_, _≤_}
+use Prim.Native.Nat.{ℕ, _-_, _<_, _≤_}
 use native.Mathlib.Omega.{arith}
 use lib.Dec.{ltb, leb, eqb, lit<}
 use lib.ListN.{length}
 use borrow.Author.Tests.{lt-ltb, le-leb, eq-eqb}
 use Rattle.words.specs.Loops.{every, some-of, largest, count}
 use Rattle.words.proofs.LoopLaws.{and-join, every-all, every-cong, some-of-hit, some-of-cong, count-cong, largest-cong}
-use Rattle.records.specs.declared.Unit.{Unit}
 use Rattle.records.specs.declared.Node.{Node}
-use Rattle.records.specs.Units.{unit-fits, inputs-of}
-use Rattle.records.specs.Records.{at, node-fits, clash, clashes, runs-in, occupied, fed-once, unit-place, node-place, wire-place, counts-fit}
-use Rattle.records.proofs.ReadingLaws.{Read, counts-join}
+use Rattle.records.specs.Units.{inputs-of}
+use Rattle.records.specs.Records.{at, clash, clashes, runs-in, occupied, fed-once, unit-place, node-place, wire-place, counts-fit}
+use Rattle.records.proofs.ReadingLaws.{counts-join}
 use Rattle.records.proofs.ByteLaws.{marked-ok}
-use Rattle.sheets.specs.Sheet.{Sheet, sheet-of, unit-of, node-of, wire-of, feeds}
-use Rattle.sheets.proofs.SheetLaws.{Passed, counts-of, node-parts, wire-parts, sound, fold-is, units-is, nodes-is, wires-is}
+use Rattle.sheets.specs.Sheet.{Sheet, sheet-of, node-of, wire-of, feeds}
+use Rattle.sheets.proofs.SheetLaws.{Passed, counts-of, wire-parts, sound, fold-is, units-is, nodes-is, wires-is}
 use Rattle.folding.specs.Walks.{chain}
 use Rattle.folding.specs.Folding.{net}
 use Rattle.plans.specs.Plan.{Plan, PlanUnit, PlanNode, Switch, unit-in, node-in, switch-in, plan-format, plan-bytes}
-use Rattle.plans.specs.Judging.{most-chain, switch-fits, switched, plan-feeds, longest-tap, idle-slots, figures-right, plan-faults}
+use Rattle.plans.specs.Judging.{most-chain, switched, plan-feeds, longest-tap, idle-slots, figures-right}
 use Rattle.plans.proofs.PlanBytes.{length-plan, whole-plan, head-fold, head-units, head-nodes, head-wires, unit-byte, node-byte, switch-byte}
-use Rattle.plans.proofs.JudgingLaws.{head-test, unit-test, node-test, switch-test, plan-clashes, plan-fed, Judged, plan-faultless}
-use Rattle.planner.specs.PlanOf.{plan-unit, plan-node, plan-switch, plan-with}
+use Rattle.plans.proofs.JudgingLaws.{head-test, unit-test, node-test, switch-test, plan-clashes, plan-fed, Judged}
+use Rattle.planner.specs.PlanOf.{plan-switch, plan-with}
 use Rattle.planner.specs.Folds.{Folds}
 use Rattle.planner.proofs.PlanLaws.{unit-is, node-is, switch-is, units-as, nodes-as, wires-as, Waits, with-folds}
 use Rattle.planner.proofs.FoldsLaws.{runs-in-is, switched-is}

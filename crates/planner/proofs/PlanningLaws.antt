@@ -1,31 +1,27 @@
 -- What the planner's number says of sheet and buffer; some result is admitted on every input, and one alone but for the loop at 6.
 -- Assumes nothing.
-use mathlib.Core.Path.{_≡_, refl, sym, ap, _∙_, subst}
-use mathlib.Core.Logic.{_⊎_, inl, inr}
-use mathlib.Core.Bool.{Bool, true, false, cond}
-use mathlib.Core.List.{List, [], _∷_, _++_}
-use Prim.Native.Nat.{ℕ, zero, suc, _+_, _*_, _<_, _≤_}
+use mathlib.Core.Path.{_≡_, refl, sym, ap, _∙_}
+use mathlib.Core.Bool.{Bool, true, false}
+use mathlib.Core.List.{List, [], _∷_}
+use Prim.Native.Nat.{ℕ, zero, suc, _*_, _≤_}
 use native.Mathlib.Omega.{arith}
 use native.Mathlib.Decide.{ℕ-discrete}
-use lib.Dec.{leb, eqb}
+use lib.Dec.{leb}
 use lib.ListN.{length, drop, length-append, length-drop}
 use lib.Seq.{drop-at}
-use borrow.Author.Tests.{leb-true, leb-false, le-leb}
+use borrow.Author.Tests.{leb-true}
 use Rattle.words.specs.Loops.{unless, _then_}
-use Rattle.words.proofs.LoopLaws.{passed?}
 use Rattle.words.proofs.FaultLaws.{then-le, unless-le, then-split, unless-true}
 use Rattle.records.specs.Records.{over}
 use Rattle.sheets.specs.Sheet.{sheet-of, sheet-fault}
 use Rattle.sheets.proofs.SheetLaws.{passed, sound-of, sheet-fault-le, nodes-is}
 use Rattle.folding.specs.Walks.{Loop, foldable}
 use Rattle.folding.specs.Folding.{net}
-use Rattle.folding.proofs.FoldingLaws.{folds-well, loop-of}
+use Rattle.folding.proofs.FoldingLaws.{loop-of}
 use Rattle.folding.proofs.SizeLaws.{small-of, loop-short}
-use Rattle.plans.specs.Plan.{plan-bytes, loop-bytes}
+use Rattle.plans.specs.Plan.{loop-bytes}
 use Rattle.plans.proofs.ConcatLaws.{length-concat}
-use Rattle.planner.specs.PlanOf.{plan-of}
-use Rattle.planner.specs.Planning.{plan-length, plan-number, answered-length, left-in, LoopShown, Planning}
-use Rattle.planner.proofs.PassedPlan.{length-written}
+use Rattle.planner.specs.Planning.{plan-length, plan-number, answered-length, left-in, Planning}
 
 pub plan-number-le : (b : List ℕ) (room : ℕ) → plan-number b room ≤ 7
 unfolding plan-number

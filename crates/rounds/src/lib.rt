@@ -11,17 +11,18 @@ ghost use Rattle.records.specs.Records.{most-nodes};
 ghost use Rattle.sheets.specs.Sheet.{sheet-format};
 ghost use Rattle.folding.specs.Walks.{deepest};
 ghost use Rattle.rounds.specs.Rounds.{number-at, row-of, bytes-net, Wired, Moderate, Settling, shifted, Timed};
+use sheets::Sheet;
 use words::time::Iterations;
 
-// Limits of a sheet, and where a wire's record has its two ends.
+// The limits of a sheet by which arrays are made, and where a wire's record has its two ends.
 pub struct Layout {}
 
 impl Layout {
-    pub const NODES: usize = 48;
+    pub const NODES: usize = Sheet::MOST_NODES;
 
-    pub const WIRES: usize = 96;
+    pub const WIRES: usize = Sheet::MOST_WIRES;
 
-    pub const RECORD: usize = 6;
+    pub const RECORD: usize = Sheet::WIRE;
 
     pub const FROM: usize = 2;
 

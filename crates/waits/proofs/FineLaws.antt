@@ -4,10 +4,9 @@ use mathlib.Core.List.{List}
 use Prim.Native.Nat.{ℕ, _<_, _≤_}
 use native.Mathlib.Omega.{arith}
 use lib.ListN.{length}
-use Rattle.records.specs.Records.{fold-in, units-in, nodes-in, wires-in}
 use Rattle.records.proofs.ReadingLaws.{Counts}
 use Rattle.sheets.specs.declared.Sheet as Head
-use Rattle.sheets.specs.Sheet.{Sheet, unit-of, node-of, wire-of, sheet-of}
+use Rattle.sheets.specs.Sheet.{Sheet, node-of, wire-of, sheet-of}
 use Rattle.sheets.specs.Sound.{Sound}
 use Rattle.sheets.proofs.SheetLaws.{Passed, passed, sound, counts-of, fold-is, units-is, nodes-is, wires-is}
 use Rattle.waits.specs.Fine.{Fine}

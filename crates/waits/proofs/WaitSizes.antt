@@ -1,24 +1,23 @@
 -- A wait's parts fit the code's integers, and after the starts of a foldable sheet it is the tap. Assumes nothing.
-use mathlib.Core.Path.{_≡_, refl, sym, ap, ap₂, _∙_}
+use mathlib.Core.Path.{_≡_, sym}
 use mathlib.Core.List.{List}
-use Prim.Native.Nat.{ℕ, suc, _+_, _*_, _^_, _<_, _≤_}
+use Prim.Native.Nat.{ℕ, _+_, _*_, _<_, _≤_}
 use native.Mathlib.Nat.{mul-le-mul}
 use native.Mathlib.Omega.{arith}
 use lib.ListN.{length}
 use lib.IntN.{ℤ, pos, negsuc, _+ℤ_, _-ℤ_, _*ℤ_}
-use lib.Signed.{_≤ℤ_}
 use mir.Syntax.{w32}
 use mir.Val.{SFits}
 use Rattle.words.specs.declared.time.Iterations.{Iterations}
 use Rattle.words.specs.Times.{iterations-at}
-use Rattle.words.proofs.Ints.{up, down, sumℤ, difℤ, timesℤ, le-up, up-le, from-pos}
+use Rattle.words.proofs.Ints.{up, down, timesℤ, le-up, up-le, from-pos}
 use Rattle.words.proofs.FitLaws.{fits, sum-size, dif-size}
 use Rattle.sheets.specs.declared.Sheet as Head
 use Rattle.sheets.specs.Sheet.{Sheet, node-of, wire-of, sheet-of}
 use Rattle.folding.specs.Walks.{start}
 use Rattle.folding.specs.Folding.{net, depth-of, raw, wait, tap}
-use Rattle.folding.proofs.FoldingLaws.{Foldable, folds-well}
-use Rattle.folding.proofs.SizeLaws.{Small, small-of, start-le}
+use Rattle.folding.proofs.FoldingLaws.{folds-well}
+use Rattle.folding.proofs.SizeLaws.{small-of, start-le}
 use Rattle.waits.specs.Fine.{Fine, Started, Near}
 use Rattle.waits.proofs.FineLaws.{passed-so, sound-so, fold-so, nodes-so, wires-so, fold-some}
 

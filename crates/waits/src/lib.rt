@@ -1,6 +1,6 @@
 // Raw waits, bounds and waits of all wires of a sheet without fault, and the longest of them by node and by unit.
 ghost use mathlib.Core.Path.{_≡_};
-ghost use Prim.Native.Nat.{ℕ, _<_, _≤_};
+ghost use Prim.Native.Nat.{ℕ, _<_};
 ghost use lib.IntN.{pos, _+ℤ_, _-ℤ_, _*ℤ_};
 ghost use Rattle.words.specs.Times.{iterations-at, cycles-at};
 ghost use Rattle.sheets.specs.Sheet.{sheet-of};
@@ -24,7 +24,11 @@ fn raw_wait(b: &[u8], sheet: Sheet, e: usize) -> Cycles
 }
 
 // The bounds of all wires, into an array that was made before the records were read.
-pub fn bounds(b: &[u8], sheet: Sheet, made: [Iterations; 96]) -> [Iterations; 96]
+pub fn bounds(
+    b: &[u8],
+    sheet: Sheet,
+    made: [Iterations; Sheet::MOST_WIRES],
+) -> [Iterations; Sheet::MOST_WIRES]
     requires { ⌜ Fine (now b) sheet ⌝ }
     ensures { λ r. ⌜ ((e : ℕ) → e < sheet .wires → iterations-at r e ≡ bound (sheet-of (now (b .entry))) e) ⌝ }
 {
@@ -50,26 +54,31 @@ fn wait_of(b: &[u8], sheet: Sheet, e: usize, from: Iterations, to: Iterations) -
 
 // The waits of all wires, the longest of those that leave each node, and the length of each unit's line: the longest tap that reads it.
 pub struct Waited {
-    pub waits: [Cycles; 96],
-    pub longest: [Cycles; 48],
-    pub lines: [Cycles; 8],
+    pub waits: [Cycles; Sheet::MOST_WIRES],
+    pub longest: [Cycles; Sheet::MOST_NODES],
+    pub lines: [Cycles; Sheet::MOST_UNITS],
 }
 
 // No waits yet.
-fn no_waits() -> [Cycles; 48]
+fn no_waits() -> [Cycles; Sheet::MOST_NODES]
     ensures { λ r. ⌜ ((k : ℕ) → cycles-at r k ≡ pos 0) ⌝ }
 {
-    [Cycles::zero(); 48]
+    [Cycles::zero(); Sheet::MOST_NODES]
 }
 
-fn no_lines() -> [Cycles; 8]
+fn no_lines() -> [Cycles; Sheet::MOST_UNITS]
     ensures { λ r. ⌜ ((k : ℕ) → cycles-at r k ≡ pos 0) ⌝ }
 {
-    [Cycles::zero(); 8]
+    [Cycles::zero(); Sheet::MOST_UNITS]
 }
 
 // What the wires wait after the starts.
-pub fn waits(b: &[u8], sheet: Sheet, starts: [Iterations; 48], made: [Cycles; 96]) -> Waited
+pub fn waits(
+    b: &[u8],
+    sheet: Sheet,
+    starts: [Iterations; Sheet::MOST_NODES],
+    made: [Cycles; Sheet::MOST_WIRES],
+) -> Waited
     requires { ⌜ Fine (now b) sheet ⌝ }
     requires { ⌜ Started (now b) starts ⌝ }
     ensures { λ r. ⌜ Waiting (now (b .entry)) r ⌝ }

@@ -1,12 +1,12 @@
 -- Laws of bytes laid over a lent slice: one run after the other is one run, and at the head it is the bytes and the kept rest.
 -- Assumes nothing.
-use mathlib.Core.Path.{_≡_, refl, sym, ap, _∙_}
-use mathlib.Core.List.{List, [], _∷_, _++_, append-assoc, append-nil}
-use Prim.Native.Nat.{ℕ, zero, suc, _+_, _≤_}
+use mathlib.Core.Path.{_≡_, refl, ap, _∙_}
+use mathlib.Core.List.{List, [], _∷_, _++_}
+use Prim.Native.Nat.{ℕ, suc, _+_, _≤_}
 use native.Mathlib.Nat.{add-zero}
 use native.Mathlib.Numerals.{add-one}
 use native.Mathlib.Omega.{arith}
-use lib.ListN.{length, set, take, drop, length-set}
+use lib.ListN.{length, set, drop, length-set}
 use lib.Seq.{sets, sets-eq}
 use Rattle.records.specs.Records.{over}
 use Rattle.writing.specs.Laid.{laid}

@@ -3,17 +3,14 @@ use Rattle.waits.proofs.FineLaws.{fold-some, few-wires, fold-so}
 use Rattle.waits.proofs.LongestLaws.{filled-more}
 use Rattle.words.specs.declared.time.Iterations.{Iterations}
 use lib.ListN.{length-set}
-use Prim.Native.Nat.{ℕ, _+_, _-_, _<_, _≤_}
-use mathlib.Core.Path.{_≡_, refl, ap, _∙_}
+use Prim.Native.Nat.{ℕ, _-_, _<_, _≤_}
+use mathlib.Core.Path.{_≡_, refl, _∙_}
 use native.Mathlib.Omega.{arith}
 use lib.ListN.{length}
 use lib.IntN.{pos}
-use Rattle.sheets.specs.Sheet.{sheet-of, wire-of}
-use Rattle.folding.specs.Walks.{start}
-use Rattle.folding.specs.Folding.{net, tap, bound}
-use Rattle.words.specs.Times.{iterations-at, cycles-at}
-use Rattle.waits.specs.Fine.{from-node, from-unit}
-use Rattle.waits.proofs.LongestLaws.{SoFar}
+use Rattle.sheets.specs.Sheet.{sheet-of}
+use Rattle.folding.specs.Folding.{bound}
+use Rattle.words.specs.Times.{iterations-at}
 use borrow.Author.Needs.{needs}
 use Rattle.waits.proofs.bounds.Statement.{statement}
 use Rattle.waits.proofs.bounds.Tie as tie

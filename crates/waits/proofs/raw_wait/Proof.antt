@@ -1,6 +1,5 @@
 -- `waits::raw_wait` meets its contract: it reads the wire, its two nodes and the unit that the first runs on. Assumes nothing.
-use native.Mathlib.Omega.{arith}
-use mathlib.Core.Path.{refl, ap, _∙_}
+use mathlib.Core.Path.{refl, _∙_}
 use Rattle.folding.specs.Folding.{raw}
 use Rattle.sheets.specs.Sheet.{sheet-of, wire-of}
 use Rattle.waits.proofs.FineLaws.{leaves-so, meets-so, on-unit-so, fold-so}

@@ -1,6 +1,6 @@
 -- `writing::write3` meets its contract: the stores one after the other are the bytes laid. Assumes nothing.
 use Prim.Native.Nat.{_+_}
-use mathlib.Core.Path.{_≡_, refl}
+use mathlib.Core.Path.{_≡_}
 use native.Mathlib.Omega.{arith}
 use lib.ListN.{length-set}
 use Rattle.writing.specs.Laid.{laid}

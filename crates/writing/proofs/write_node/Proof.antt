@@ -1,5 +1,5 @@
 -- `writing::write_node` meets its contract: the parts that it writes one after the other are the record. Assumes nothing.
-use mathlib.Core.List.{[], _∷_, _++_}
+use mathlib.Core.List.{[], _∷_}
 use lib.IntN.{natAbs}
 use Rattle.records.specs.Records.{low, high}
 use Rattle.writing.proofs.LaidLaws.{laid-append}
