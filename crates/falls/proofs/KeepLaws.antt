@@ -13,28 +13,29 @@ use lib.IntN.{ℤ, _+ℤ_}
 use lib.Signed.{ltZ, _≤ℤ_, _<ℤ_}
 use Rattle.words.specs.declared.time.Iterations.{Iterations}
 use Rattle.words.proofs.Ints.{ints, ltZ-true}
+use Rattle.words.specs.Times.{iterations-at}
 use Rattle.records.specs.Records.{most-nodes}
 use Rattle.folding.specs.Walks.{Net, round, settled}
-use Rattle.rounds.specs.Rounds.{number-at, bytes-net, Wired}
+use Rattle.rounds.specs.Rounds.{bytes-net, Wired}
 use Rattle.rounds.proofs.StepLaws.{Reached, number-set-same, number-set-other}
 use Rattle.rounds.proofs.RowLaws.{Rounded, rounded-more, stays-settled}
 use Rattle.falls.specs.Choices.{Reaches, Falls}
 
 -- in round k + 1 from the totals d, so far l: the choices of the nodes that fell, and r the last of them
 pub record Picking (g : Net) (n : ℕ) (d : ℕ → ℤ) (k : ℕ) (l : List Iterations) (choices : List ℕ) (r : ℕ) : Type 0 where
-  pub lower : (u : ℕ) → number-at l u ≤ℤ d u
-  pub picked : (u : ℕ) → number-at l u <ℤ d u → Reaches g d (number-at l u) u (getD choices (most-nodes * k + u) 0)
-  pub last : ((u : ℕ) → number-at l u ≡ d u) ⊎ ((r < n) × (number-at l r <ℤ d r))
+  pub lower : (u : ℕ) → iterations-at l u ≤ℤ d u
+  pub picked : (u : ℕ) → iterations-at l u <ℤ d u → Reaches g d (iterations-at l u) u (getD choices (most-nodes * k + u) 0)
+  pub last : ((u : ℕ) → iterations-at l u ≡ d u) ⊎ ((r < n) × (iterations-at l r <ℤ d r))
 
-pub picking-none : (g : Net) (n k : ℕ) (l : List Iterations) (choices : List ℕ) (r : ℕ) → Picking g n (number-at l) k l choices r
+pub picking-none : (g : Net) (n k : ℕ) (l : List Iterations) (choices : List ℕ) (r : ℕ) → Picking g n (iterations-at l) k l choices r
 picking-none g n k l choices r = record { lower = λ u. omega ints; picked = λ u f. absurd (omega ints); last = inl (λ u. refl) }
 
 -- wire e, from w, comes to y, below the total so far
 module _ (g : Net) (n : ℕ) (d : ℕ → ℤ) (k e w : ℕ) (y : Iterations) (l : List Iterations) (choices : List ℕ) (r : ℕ) (node : w < n) (h : e < g .wires)
     (leaves : w ≡ g .from e) (sum : y .0 ≡ g .bound e +ℤ d (g .to e)) (long : w < length l) (room : most-nodes * k + w < length choices)
-    (less : ltZ (y .0) (number-at l w) ≡ true) (before : Picking g n d k l choices r) where
+    (less : ltZ (y .0) (iterations-at l w) ≡ true) (before : Picking g n d k l choices r) where
   below : y .0 <ℤ d w
-  below = let a = ltZ-true (y .0) (number-at l w) less in let b = before .lower w in omega ints
+  below = let a = ltZ-true (y .0) (iterations-at l w) less in let b = before .lower w in omega ints
 
   pub picking-more : Picking g n d k (set l w y) (set choices (most-nodes * k + w) e) w
   picking-more = record {
@@ -65,8 +66,8 @@ chosen-kept g k w e choices few chosen j u h hu f =
 -- ---- round k + 1 is over
 
 module _ {b : List ℕ} {at nodes wires : ℕ} (bounds : List Iterations) (wired : Wired b at nodes wires) (k : ℕ) (l l′ : List Iterations) (choices : List ℕ) (r : ℕ)
-    (is : Rounded bounds wired k l) (reached : Reached (bytes-net b at most-nodes wires bounds) (number-at l) l′ wires)
-    (picking : Picking (bytes-net b at most-nodes wires bounds) nodes (number-at l) k l′ choices r) where
+    (is : Rounded bounds wired k l) (reached : Reached (bytes-net b at most-nodes wires bounds) (iterations-at l) l′ wires)
+    (picking : Picking (bytes-net b at most-nodes wires bounds) nodes (iterations-at l) k l′ choices r) where
   abbrev g : Net
   g = bytes-net b at nodes wires bounds
 

@@ -15,16 +15,17 @@ use Rattle.words.specs.declared.time.Iterations.{Iterations}
 use Rattle.words.proofs.Ints.{up, down, ints, le-up}
 use Rattle.words.proofs.FitLaws.{fits, sum-size}
 use Rattle.words.proofs.LoopLaws.{passed?, length-tab, getD-tab}
+use Rattle.words.specs.Times.{iterations-at}
 use Rattle.records.specs.Records.{most-nodes}
 use Rattle.sheets.specs.Sheet.{most-delays}
 use Rattle.folding.specs.Walks.{Net, row, round, settled, foldable}
 use Rattle.folding.proofs.RoundLaws.{Closed, length-row, round-next, round-nonpos, settled-at, falls-at}
 use Rattle.folding.proofs.AlikeLaws.{better-same}
 use Rattle.folding.proofs.SettleLaws.{settled-later, settled-row, chain-first, round-low}
-use Rattle.rounds.specs.Rounds.{number-at, row-of, bytes-net, Wired, Moderate, Settling}
+use Rattle.rounds.specs.Rounds.{row-of, bytes-net, Wired, Moderate, Settling}
 use Rattle.rounds.proofs.StepLaws.{Reached, Fell}
 
-pub number-none : (z : Iterations) → z .0 ≡ pos 0 → (n u : ℕ) → number-at (replicate n z) u ≡ pos 0
+pub number-none : (z : Iterations) → z .0 ≡ pos 0 → (n u : ℕ) → iterations-at (replicate n z) u ≡ pos 0
 number-none z h zero u = refl
 number-none z h (suc n) zero = h
 number-none z h (suc n) (suc u) = number-none z h n u
@@ -52,7 +53,7 @@ module _ {b : List ℕ} {at nodes wires : ℕ} (bounds : List Iterations) (wired
 
   -- l has the totals of round k
   abbrev pub Rounded : ℕ → List Iterations → Type 0
-  Rounded k l = (u : ℕ) → u < nodes → number-at l u ≡ round g k u
+  Rounded k l = (u : ℕ) → u < nodes → iterations-at l u ≡ round g k u
 
   pub closed : Closed g
   closed e h = (wired .leaves e h, wired .meets e h)
@@ -69,11 +70,11 @@ module _ {b : List ℕ} {at nodes wires : ℕ} (bounds : List Iterations) (wired
 
   pub row-is : (k : ℕ) (l : List Iterations) → Rounded k l → row-of nodes l ≡ row g k
   row-is k l is =
-      ext-getD (pos 0) (row-of nodes l) (row g k) (length-tab nodes (number-at l) ∙ sym (length-row g k))
-      (λ u h. let h′ : u < nodes = omega (arith, length-tab nodes (number-at l)) in getD-tab nodes (number-at l) u (pos 0) h′ ∙ is u h′)
+      ext-getD (pos 0) (row-of nodes l) (row g k) (length-tab nodes (iterations-at l) ∙ sym (length-row g k))
+      (λ u h. let h′ : u < nodes = omega (arith, length-tab nodes (iterations-at l)) in getD-tab nodes (iterations-at l) u (pos 0) h′ ∙ is u h′)
 
   module _ (k : ℕ) (l : List Iterations) (is : Rounded k l) where
-    pub sum-fits : k ≤ nodes → Moderate g → (e : ℕ) → e < wires → SFits w32 (g .bound e +ℤ number-at l (g .to e))
+    pub sum-fits : k ≤ nodes → Moderate g → (e : ℕ) → e < wires → SFits w32 (g .bound e +ℤ iterations-at l (g .to e))
     sum-fits few moderate e h =
         let v = g .to e in
         let d = round g k v in
@@ -85,14 +86,14 @@ module _ {b : List ℕ} {at nodes wires : ℕ} (bounds : List Iterations) (wired
         (omega (arith, s .1, low-down (g .bound e) 15 (moderate .low e h), high-up d 0 (round-nonpos g k v hv), round-low g closed (moderate .low) k v hv, wired .few-nodes)))
 
     -- l′ has what one round makes of l
-    module _ (l′ : List Iterations) (reached : Reached whole (number-at l) l′ wires) where
+    module _ (l′ : List Iterations) (reached : Reached whole (iterations-at l) l′ wires) where
       pub rounded-more : Rounded (suc k) l′
       rounded-more u h =
           reached u
-          ∙ better-same whole g (number-at l) (round g k) u wires (is u h) (λ e he. (refl, ap (λ (z : ℤ). g .bound e +ℤ z) (is (g .to e) (wired .meets e he))))
+          ∙ better-same whole g (iterations-at l) (round g k) u wires (is u h) (λ e he. (refl, ap (λ (z : ℤ). g .bound e +ℤ z) (is (g .to e) (wired .meets e he))))
           ∙ sym (round-next g k u h)
 
-      pub stays-settled : Fell nodes (number-at l) l′ false → settled g k ≡ true
+      pub stays-settled : Fell nodes (iterations-at l) l′ false → settled g k ≡ true
       stays-settled same = elim (passed? (settled g k)) [
         | inl t ↦ t
         | inr f ↦
@@ -105,7 +106,7 @@ module _ {b : List ℕ} {at nodes wires : ℕ} (bounds : List Iterations) (wired
             absurd (omega ints)
       ]
 
-      pub falls-unsettled : Fell nodes (number-at l) l′ true → settled g k ≡ false
+      pub falls-unsettled : Fell nodes (iterations-at l) l′ true → settled g k ≡ false
       falls-unsettled (u, h, fall) = elim (passed? (settled g k)) [
         | inl t ↦ absurd (let a = rounded-more u h in let b = is u h in let c = settled-at g k u t h in omega ints)
         | inr f ↦ f

@@ -6,6 +6,7 @@ use Prim.Native.Nat.{ℕ, _<_}
 use native.Mathlib.Omega.{arith}
 use lib.ListN.{length}
 use Rattle.words.specs.declared.time.Iterations.{Iterations}
+use Rattle.words.specs.Times.{iterations-at}
 use Rattle.records.specs.Records.{nodes-in, wires-in, node-place}
 use Rattle.sheets.specs.declared.Wire.{Wire}
 use Rattle.sheets.specs.Sheet.{sheet-format, sheet-of}
@@ -14,10 +15,10 @@ use Rattle.folding.specs.Walks.{Net}
 use Rattle.folding.specs.Folding.{net, bound}
 use Rattle.folding.proofs.AlikeLaws.{Alike}
 use Rattle.folding.proofs.SizeLaws.{small-of, bound-low, bound-high}
-use Rattle.rounds.specs.Rounds.{number-at, bytes-net, Wired, Moderate}
+use Rattle.rounds.specs.Rounds.{bytes-net, Wired, Moderate}
 
 module _ (b : List ℕ) (passed : Passed b) (bounds : List Iterations)
-    (bounds-are : (e : ℕ) → e < wires-in b → number-at bounds e ≡ bound (sheet-of b) e) where
+    (bounds-are : (e : ℕ) → e < wires-in b → iterations-at bounds e ≡ bound (sheet-of b) e) where
   -- where the wires' records begin
   abbrev pub wires-at : ℕ
   wires-at = node-place sheet-format b (nodes-in b)

@@ -15,30 +15,31 @@ use mir.Val.{SFits}
 use Rattle.words.specs.declared.time.Iterations.{Iterations}
 use Rattle.words.proofs.FitLaws.{fits, dif-size}
 use Rattle.words.proofs.LoopLaws.{getD-tab}
+use Rattle.words.specs.Times.{iterations-at}
 use Rattle.folding.specs.Walks.{Net, minℤ, round, foldable, latest, deepest, start}
 use Rattle.folding.proofs.StartLaws.{start-is, deepest-met}
 use Rattle.folding.proofs.RoundLaws.{Closed, round-nonpos}
 use Rattle.folding.proofs.SettleLaws.{round-low}
 use Rattle.records.specs.Records.{most-nodes}
-use Rattle.rounds.specs.Rounds.{number-at, row-of, shifted, Moderate, Settling, Timed}
+use Rattle.rounds.specs.Rounds.{row-of, shifted, Moderate, Settling, Timed}
 use Rattle.rounds.specs.declared.Settled.{Settled}
 use Rattle.rounds.proofs.RowLaws.{high-up}
 
 pub least-more : (n u : ℕ) (l : List Iterations) (a x : Iterations) → u < n → a .0 ≡ deepest (row-of n l) u →
-    x .0 ≡ cond (leZ (a .0) (number-at l u)) (a .0) (number-at l u) → x .0 ≡ deepest (row-of n l) (u + 1)
+    x .0 ≡ cond (leZ (a .0) (iterations-at l u)) (a .0) (iterations-at l u) → x .0 ≡ deepest (row-of n l) (u + 1)
 unfolding deepest minℤ
-least-more n u l a x h p q = q ∙ rw (add-one u, p, getD-tab n (number-at l) u (pos 0) h) refl
+least-more n u l a x h p q = q ∙ rw (add-one u, p, getD-tab n (iterations-at l) u (pos 0) h) refl
 
 pub filled-more : (f : ℕ → ℤ) (l : List Iterations) (u : ℕ) (x : Iterations) → u < length l → x .0 ≡ f u →
-    ((v : ℕ) → v < u → number-at l v ≡ f v) → (v : ℕ) → v < u + 1 → number-at (set l u x) v ≡ f v
+    ((v : ℕ) → v < u → iterations-at l v ≡ f v) → (v : ℕ) → v < u + 1 → iterations-at (set l u x) v ≡ f v
 filled-more f l u x h q r v k = elim (ℕ-discrete v u) [
   | yes s ↦ rw s (ap (λ (i : Iterations). i .0) (getD-set-same l u x (record { 0 = pos 0 }) h) ∙ q)
   | no s ↦ ap (λ (i : Iterations). i .0) (getD-set-other l u v x (record { 0 = pos 0 }) s) ∙ r v (omega arith)
 ]
 
 pub shift-at : (n u : ℕ) (l : List Iterations) (a : Iterations) → u < n → a .0 ≡ deepest (row-of n l) n →
-    number-at l u -ℤ a .0 ≡ shifted (row-of n l) n u
-shift-at n u l a h q = rw (q, getD-tab n (number-at l) u (pos 0) h) refl
+    iterations-at l u -ℤ a .0 ≡ shifted (row-of n l) n u
+shift-at n u l a h q = rw (q, getD-tab n (iterations-at l) u (pos 0) h) refl
 
 -- ---- the latest row
 
@@ -75,7 +76,7 @@ module _ (g : Net) (r : Settled) (answer : Settling g r) where
     pub starts-fit : Closed g → Moderate g → g .nodes ≤ most-nodes → (u : ℕ) → u < g .nodes → SFits w32 (shifted (row-of (g .nodes) (r .totals)) (g .nodes) u)
     starts-fit cl moderate few = shifted-fits g (r .totals) (answer .totals folds) cl moderate few
 
-    pub settled-timed : (l : List Iterations) → ((u : ℕ) → u < g .nodes → number-at l u ≡ shifted (row-of (g .nodes) (r .totals)) (g .nodes) u) →
+    pub settled-timed : (l : List Iterations) → ((u : ℕ) → u < g .nodes → iterations-at l u ≡ shifted (row-of (g .nodes) (r .totals)) (g .nodes) u) →
         Timed g (record { starts = l; rounds = r .rounds; settled = true })
     settled-timed l are = record {
       settled = sym folds;

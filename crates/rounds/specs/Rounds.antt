@@ -9,19 +9,16 @@ use lib.IntN.{ℤ, pos, negsuc, _-ℤ_}
 use lib.Signed.{_≤ℤ_}
 use Rattle.words.specs.declared.time.Iterations.{Iterations}
 use Rattle.words.specs.Loops.{tab}
+use Rattle.words.specs.Times.{iterations-at}
 use Rattle.records.specs.Records.{most-nodes, most-wires}
 use Rattle.sheets.specs.Sheet.{sheet-format, wire-at, most-delays}
 use Rattle.folding.specs.Walks.{Net, chain, foldable, latest, deepest, start}
 use Rattle.rounds.specs.declared.Settled.{Settled}
 use Rattle.rounds.specs.declared.Retimed.{Retimed}
 
--- the number of element i
-abbrev pub number-at : List Iterations → ℕ → ℤ
-number-at l i = getD l i (record { 0 = pos 0 }) .0
-
 -- the totals of the first n nodes
 abbrev pub row-of : ℕ → List Iterations → List ℤ
-row-of n l = tab n (number-at l)
+row-of n l = tab n (iterations-at l)
 
 -- the wires whose records stand in b from byte `at` on, each with its bound
 abbrev pub bytes-net : List ℕ → ℕ → ℕ → ℕ → List Iterations → Net
@@ -30,7 +27,7 @@ bytes-net b at nodes wires bounds = record {
   wires = wires;
   from = λ e. wire-at b (at + sheet-format .wire-length * e) .from;
   to = λ e. wire-at b (at + sheet-format .wire-length * e) .to;
-  bound = number-at bounds;
+  bound = iterations-at bounds;
 }
 
 -- the records stand in b, and their ends are nodes
@@ -62,4 +59,4 @@ shifted d n u = getD d u (pos 0) -ℤ deepest d n
 pub record Timed (g : Net) (r : Retimed) : Type 0 where
   pub settled : r .settled ≡ foldable g
   pub rounds : foldable g ≡ true → r .rounds ≡ chain g
-  pub starts : foldable g ≡ true → (u : ℕ) → u < g .nodes → number-at (r .starts) u ≡ pos (start g u)
+  pub starts : foldable g ≡ true → (u : ℕ) → u < g .nodes → iterations-at (r .starts) u ≡ pos (start g u)

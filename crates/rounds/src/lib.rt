@@ -7,10 +7,11 @@ ghost use lib.ListN.{length, getD};
 ghost use lib.IntN.{pos};
 ghost use mir.Syntax.{w32};
 ghost use mir.Val.{SFits};
+ghost use Rattle.words.specs.Times.{iterations-at};
 ghost use Rattle.records.specs.Records.{most-nodes};
 ghost use Rattle.sheets.specs.Sheet.{sheet-format};
 ghost use Rattle.folding.specs.Walks.{deepest};
-ghost use Rattle.rounds.specs.Rounds.{number-at, row-of, bytes-net, Wired, Moderate, Settling, shifted, Timed};
+ghost use Rattle.rounds.specs.Rounds.{row-of, bytes-net, Wired, Moderate, Settling, shifted, Timed};
 use sheets::Sheet;
 use words::time::Iterations;
 
@@ -71,7 +72,7 @@ pub fn end_at(b: &[u8], at: usize, e: usize, side: usize) -> usize
 
 // The empty walk counts 0.
 pub fn no_totals() -> [Iterations; Layout::NODES]
-    ensures { λ r. ⌜ ((u : ℕ) → number-at r u ≡ pos 0) ⌝ }
+    ensures { λ r. ⌜ ((u : ℕ) → iterations-at r u ≡ pos 0) ⌝ }
 {
     [Iterations::zero(); Layout::NODES]
 }
@@ -136,7 +137,7 @@ fn deepest(totals: [Iterations; Layout::NODES], nodes: usize) -> Iterations
 pub fn starts(totals: [Iterations; Layout::NODES], nodes: usize) -> [Iterations; Layout::NODES]
     requires { ⌜ nodes ≤ most-nodes ⌝ }
     requires { ⌜ ((u : ℕ) → u < nodes → SFits w32 (shifted (row-of nodes totals) nodes u)) ⌝ }
-    ensures { λ r. ⌜ ((u : ℕ) → u < nodes → number-at r u ≡ shifted (row-of nodes totals) nodes u) ⌝ }
+    ensures { λ r. ⌜ ((u : ℕ) → u < nodes → iterations-at r u ≡ shifted (row-of nodes totals) nodes u) ⌝ }
 {
     let least = deepest(totals, nodes);
     let made = no_totals();

@@ -7,10 +7,11 @@ use native.Mathlib.Omega.{arith}
 use native.Mathlib.Numerals.{add-one}
 use borrow.Author.Needs.{needs}
 use lib.ListN.{length, length-set}
+use Rattle.words.specs.Times.{iterations-at}
 use Rattle.records.specs.Records.{most-nodes}
 use Rattle.folding.specs.Walks.{better, round, settled, foldable}
 use Rattle.folding.proofs.RoundLaws.{round-zero}
-use Rattle.rounds.specs.Rounds.{number-at, bytes-net}
+use Rattle.rounds.specs.Rounds.{bytes-net}
 use Rattle.rounds.proofs.StepLaws.{Reached, reached-less, reached-past}
 use Rattle.rounds.proofs.RowLaws.{sum-fits, rounded-more}
 use Rattle.falls.specs.Choices.{Falls}
@@ -22,8 +23,8 @@ abbrev Inv-loop : tie.InvT-loop
 Inv-loop b at wires nodes choices₀ bounds former₀ totals₀ fell₀ k₀ e₀ choices former totals fell k e =
     let g = bytes-net b at nodes wires bounds in
     let whole = bytes-net b at most-nodes wires bounds in
-    (k ≤ nodes) × (e ≤ wires) × (length totals ≡ most-nodes) × (length choices ≡ length choices₀) × ((u : ℕ) → u < nodes → number-at former u ≡ round g k u)
-    × Reached whole (number-at former) totals e × Picking whole nodes (number-at former) k totals choices fell × Chosen g k choices
+    (k ≤ nodes) × (e ≤ wires) × (length totals ≡ most-nodes) × (length choices ≡ length choices₀) × ((u : ℕ) → u < nodes → iterations-at former u ≡ round g k u)
+    × Reached whole (iterations-at former) totals e × Picking whole nodes (iterations-at former) k totals choices fell × Chosen g k choices
     × (k ≡ nodes → e ≡ 0) × ((j : ℕ) → suc j ≡ k → e ≡ 0 → settled g j ≡ false → (fell < nodes) × Falls g j fell)
 
 -- turns that are left, each round with one for its end
@@ -147,8 +148,8 @@ loop-again c =
       simp length-set (l .loop .inv .2),
       simp length-set (l .loop .inv .3),
       l .loop .inv .4,
-      reached-less whole (number-at (l .loop .former)) (l .loop .e) (a .end-at .result) (v .result) (sum .result) (a .end-at .ensures) (v .ensures) (sum .ensures) (l .loop .totals) (l .loop .inv .5) long less,
-      picking-more whole (s .nodes) (number-at (l .loop .former)) (l .loop .k) (l .loop .e) (a .end-at .result) (sum .result) (l .loop .totals) (l .loop .choices) (l .loop .fell) (leaves a) more
+      reached-less whole (iterations-at (l .loop .former)) (l .loop .e) (a .end-at .result) (v .result) (sum .result) (a .end-at .ensures) (v .ensures) (sum .ensures) (l .loop .totals) (l .loop .inv .5) long less,
+      picking-more whole (s .nodes) (iterations-at (l .loop .former)) (l .loop .k) (l .loop .e) (a .end-at .result) (sum .result) (l .loop .totals) (l .loop .choices) (l .loop .fell) (leaves a) more
           (a .end-at .ensures) (rw (v .ensures) at (sum .ensures)) long (room a) less (l .loop .inv .6),
       chosen-kept (bytes-net (s .b .now) (s .at) (s .nodes) (s .wires) (s .t5)) (l .loop .k) (a .end-at .result) (l .loop .e) (l .loop .choices) (f .pre .0 .few-nodes) (l .loop .inv .7),
       (λ h. absurd (omega (arith, a .before .before .loop-test .taken))),
@@ -172,7 +173,7 @@ loop-again-2 c =
       l .loop .inv .2,
       l .loop .inv .3,
       l .loop .inv .4,
-      reached-past whole (number-at (l .loop .former)) (l .loop .e) (a .end-at .result) (v .result) (sum .result) (a .end-at .ensures) (v .ensures) (sum .ensures) (l .loop .totals) (l .loop .inv .5)
+      reached-past whole (iterations-at (l .loop .former)) (l .loop .e) (a .end-at .result) (v .result) (sum .result) (a .end-at .ensures) (v .ensures) (sum .ensures) (l .loop .totals) (l .loop .inv .5)
           (sym (c .before .below .ensures) ∙ c .if2 .left),
       l .loop .inv .6,
       l .loop .inv .7,

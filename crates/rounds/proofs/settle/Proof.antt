@@ -10,10 +10,11 @@ use borrow.Author.Needs.{needs}
 use borrow.Author.Tests.{not-true, not-false, lt-ltb, le-ltb}
 use borrow.Author.Count.{below-more}
 use lib.ListN.{length, length-set}
+use Rattle.words.specs.Times.{iterations-at}
 use Rattle.records.specs.Records.{most-nodes}
 use Rattle.folding.specs.Walks.{better, round, settled}
 use Rattle.folding.proofs.RoundLaws.{round-zero}
-use Rattle.rounds.specs.Rounds.{number-at, bytes-net}
+use Rattle.rounds.specs.Rounds.{bytes-net}
 use Rattle.rounds.proofs.StepLaws.{Reached, reached-less, reached-past, Fell, fell-more}
 use Rattle.rounds.proofs.RowLaws.{sum-fits, rounded-more, stays-settled, falls-unsettled, settled-answer, unsettled-answer}
 use Rattle.rounds.proofs.settle.Statement.{statement}
@@ -22,8 +23,8 @@ use Rattle.rounds.proofs.settle.Tie as tie
 abbrev Inv-loop : tie.InvT-loop
 Inv-loop b at wires nodes bounds former₀ totals₀ changed₀ k₀ e₀ former totals changed k e =
     let g = bytes-net b at nodes wires bounds in
-    (k ≤ nodes) × (e ≤ wires) × (length totals ≡ most-nodes) × ((u : ℕ) → u < nodes → number-at former u ≡ round g k u)
-    × Reached (bytes-net b at most-nodes wires bounds) (number-at former) totals e × Fell nodes (number-at former) totals changed × ((j : ℕ) → j < k → settled g j ≡ false)
+    (k ≤ nodes) × (e ≤ wires) × (length totals ≡ most-nodes) × ((u : ℕ) → u < nodes → iterations-at former u ≡ round g k u)
+    × Reached (bytes-net b at most-nodes wires bounds) (iterations-at former) totals e × Fell nodes (iterations-at former) totals changed × ((j : ℕ) → j < k → settled g j ≡ false)
 
 -- turns that are left, each round with one for its end
 abbrev μ-loop : tie.MeasureT-loop
@@ -114,9 +115,9 @@ loop-again c =
       omega (arith, a .before .if1 .taken),
       simp length-set (l .loop .inv .2),
       l .loop .inv .3,
-      reached-less (bytes-net (s .b .now) (s .at) most-nodes (s .wires) (s .t5)) (number-at (l .loop .former)) (l .loop .e) (a .end-at .result) (c .before .before .before .before .before .before .end-at2 .result)
+      reached-less (bytes-net (s .b .now) (s .at) most-nodes (s .wires) (s .t5)) (iterations-at (l .loop .former)) (l .loop .e) (a .end-at .result) (c .before .before .before .before .before .before .end-at2 .result)
           (c .before .before .before .plus .result) (a .end-at .ensures) (c .before .before .before .before .before .before .end-at2 .ensures) (c .before .before .before .plus .ensures) (l .loop .totals) (l .loop .inv .4) long less,
-      fell-more (s .nodes) (number-at (l .loop .former)) (l .loop .totals) (a .end-at .result) (c .before .before .before .plus .result) node long less (l .loop .changed) (l .loop .inv .5),
+      fell-more (s .nodes) (iterations-at (l .loop .former)) (l .loop .totals) (a .end-at .result) (c .before .before .before .plus .result) node long less (l .loop .changed) (l .loop .inv .5),
       l .loop .inv .6,
     )
 
@@ -132,7 +133,7 @@ loop-again-2 c =
       omega (arith, a .before .if1 .taken),
       l .loop .inv .2,
       l .loop .inv .3,
-      reached-past (bytes-net (s .b .now) (s .at) most-nodes (s .wires) (s .t5)) (number-at (l .loop .former)) (l .loop .e) (a .end-at .result) (c .before .before .before .before .before .before .end-at2 .result)
+      reached-past (bytes-net (s .b .now) (s .at) most-nodes (s .wires) (s .t5)) (iterations-at (l .loop .former)) (l .loop .e) (a .end-at .result) (c .before .before .before .before .before .before .end-at2 .result)
           (c .before .before .before .plus .result) (a .end-at .ensures) (c .before .before .before .before .before .before .end-at2 .ensures) (c .before .before .before .plus .ensures) (l .loop .totals) (l .loop .inv .4)
           (sym (c .before .below .ensures) ∙ c .if2 .left),
       l .loop .inv .5,
@@ -159,7 +160,7 @@ loop-again-3 c =
       rw (add-one (l .k)) (rounded-more (s .t5) (f .pre .0) (l .k) (l .former) (l .inv .3) (l .totals) reached),
       (λ u. refl),
       (λ u. refl),
-      below-more _ _ (l .inv .6) (falls-unsettled (s .t5) (f .pre .0) (l .k) (l .former) (l .inv .3) (l .totals) reached (subst (Fell (s .nodes) (number-at (l .former)) (l .totals)) (not-false (l .changed) (c .if3 .left)) (l .inv .5))),
+      below-more _ _ (l .inv .6) (falls-unsettled (s .t5) (f .pre .0) (l .k) (l .former) (l .inv .3) (l .totals) reached (subst (Fell (s .nodes) (iterations-at (l .former)) (l .totals)) (not-false (l .changed) (c .if3 .left)) (l .inv .5))),
     )
 
 cast-new : tie.Need-cast-new Inv-loop μ-loop
@@ -178,7 +179,7 @@ returns c =
     (unsettled-answer (s .t5) (f .pre .0) (l .k) (l .totals) (l .inv .6 (s .nodes - 1) (omega (arith, w .left, f .pre .0 .some-node)))))
     (λ w.
     let all : l .e ≡ s .wires = omega (arith, l .inv .1, w .1 .left) in
-    let same = subst (Fell (s .nodes) (number-at (l .former)) (l .totals)) (not-true (l .changed) (w .2 .taken)) (l .inv .5) in
+    let same = subst (Fell (s .nodes) (iterations-at (l .former)) (l .totals)) (not-true (l .changed) (w .2 .taken)) (l .inv .5) in
     rw (c .new .ensures, lt-ltb (l .k) (s .nodes) (w .0 .taken))
     (settled-answer (s .t5) (f .pre .0) (l .k) (l .totals) (λ u h. same u ∙ l .inv .3 u h) (w .0 .taken) (l .inv .6)
     (stays-settled (s .t5) (f .pre .0) (l .k) (l .former) (l .inv .3) (l .totals) (rw all at (l .inv .4)) same)))

@@ -5,15 +5,16 @@ use native.Mathlib.Omega.{arith}
 use borrow.Author.Needs.{needs}
 use lib.ListN.{length, length-set}
 use lib.IntN.{_-ℤ_}
+use Rattle.words.specs.Times.{iterations-at}
 use Rattle.records.specs.Records.{most-nodes}
-use Rattle.rounds.specs.Rounds.{number-at, row-of, shifted}
+use Rattle.rounds.specs.Rounds.{row-of, shifted}
 use Rattle.rounds.proofs.ShiftLaws.{filled-more, shift-at}
 use Rattle.rounds.proofs.starts.Statement.{statement}
 use Rattle.rounds.proofs.starts.Tie as tie
 
 abbrev Inv-loop : tie.InvT-loop
 Inv-loop nodes totals least starts₀ u₀ starts u =
-    (u ≤ nodes) × (length starts ≡ most-nodes) × ((v : ℕ) → v < u → number-at starts v ≡ shifted (row-of nodes totals) nodes v)
+    (u ≤ nodes) × (length starts ≡ most-nodes) × ((v : ℕ) → v < u → iterations-at starts v ≡ shifted (row-of nodes totals) nodes v)
 
 abbrev μ-loop : tie.MeasureT-loop
 μ-loop nodes totals least starts₀ u₀ starts u = nodes - u
@@ -36,7 +37,7 @@ array-copy-out-total c = search needs
 at-u : (c : tie.After-total Inv-loop μ-loop) →
     let s = c .before .before .before .before .before .args in
     let u = c .before .before .loop .u in
-    number-at (s .t1) u -ℤ c .before .before .before .before .deepest .result .0 ≡ shifted (row-of (s .nodes) (s .t1)) (s .nodes) u
+    iterations-at (s .t1) u -ℤ c .before .before .before .before .deepest .result .0 ≡ shifted (row-of (s .nodes) (s .t1)) (s .nodes) u
 at-u c =
     let s = c .before .before .before .before .before .args in
     shift-at (s .nodes) (c .before .before .loop .u) (s .t1) _ (c .before .loop-test .taken) (c .before .before .before .before .deepest .ensures)
