@@ -58,13 +58,11 @@ static uint32_t judge_units(struct view *v, const uint8_t *kinds, const struct f
 
 static uint32_t judge_header(const uint8_t *p, size_t len, struct view *v)
 {
-    if (len < 9) {
-        return 1;
+    uint32_t refusal = header_refusal(p, len, 9, "PH");
+    if (refusal) {
+        return refusal;
     }
-    if (!marked(p, "PH")) {
-        return 2;
-    }
-    if (!counts_fit(p) || p[8] > 47) {
+    if (p[8] > 47) {
         return 3;
     }
     v->fold = p[2], v->units = p[3], v->nodes = p[4], v->switches = p[5];

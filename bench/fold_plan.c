@@ -37,14 +37,9 @@ static uint32_t judge_wires(const struct view *v)
 
 static uint32_t judge_header(const uint8_t *s, size_t len, struct view *v)
 {
-    if (len < 6) {
-        return 1;
-    }
-    if (!marked(s, "FH")) {
-        return 2;
-    }
-    if (!counts_fit(s)) {
-        return 3;
+    uint32_t refusal = header_refusal(s, len, 6, "FH");
+    if (refusal) {
+        return refusal;
     }
     v->fold = s[2], v->units = s[3], v->nodes = s[4], v->wires = s[5];
     v->unit = s + 6;

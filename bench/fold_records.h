@@ -2,6 +2,7 @@
 #ifndef FOLD_RECORDS_H
 #define FOLD_RECORDS_H
 
+#include <stddef.h>
 #include <stdint.h>
 #include <string.h>
 
@@ -31,6 +32,18 @@ static inline int counts_fit(const uint8_t *header)
 {
     return (unsigned)header[2] - 1 < FOLD && (unsigned)header[3] - 1 < UNITS && (unsigned)header[4] - 1 < NODES &&
            header[5] <= WIRES;
+}
+
+/* The first fault of a header of that length and mark: too short, another mark, counts out of range. */
+static inline uint32_t header_refusal(const uint8_t *header, size_t len, size_t least, const char *mark)
+{
+    if (len < least) {
+        return 1;
+    }
+    if (!marked(header, mark)) {
+        return 2;
+    }
+    return counts_fit(header) ? 0 : 3;
 }
 
 /* Occupied slots of each unit and channels taken, as masks, and whether two nodes clash. */

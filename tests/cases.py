@@ -48,6 +48,10 @@ class Job:
         self.say("LIVE", 3, [len(counts)])
         self.printed.append("live" + "".join(" %d" % c for c in counts))
 
+    def live_at(self, node, slot, cycles):
+        self.say("NODE", 4, [node, slot])
+        self.printed.append("live in the slot at" + "".join(" %d" % c for c in cycles))
+
     def folds(self, title, s, room=ROOM):
         plan = plan_bytes(plan_of(s))
         self.title(title)
@@ -99,8 +103,10 @@ def worked(job):
     job.folds("case 12: a sheet of these bounds", EXAMPLE_10)
     p = plan_of(BIQUAD)
     assert ([n[4] for n in p.nodes], p.registers, p.chain) == ([1, 2, 1, 2, 1, 1, 0, 1, 1], 2, 3)
-    job.folds("biquad: node 1, in slot 3 at depth 1 with a longest tap of 5, is live in slot 1 at cycles 5 and 9", BIQUAD)
+    job.folds("biquad", BIQUAD)
     job.live([2, 2, 2, 1])
+    job.title("biquad, node 1, slot 1")
+    job.live_at(0, 1, [5, 9])
 
 
 def limits(job):

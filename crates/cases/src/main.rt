@@ -1,5 +1,6 @@
 // 01's run cases through the planner, as standard input says: for each sheet the answer, what stands in the buffer and whether its
-// rest was kept, and the live counts of its slots. Input and print are written by tests/cases.py. Assumes nothing.
+// rest was kept, the live counts of its slots, and the cycles at which a node is live in one. Input and print are written by
+// tests/cases.py. Assumes nothing.
 use planner::Planned;
 use plans::Plan;
 use scripts::reading::byte;
@@ -10,6 +11,7 @@ use scripts::reading::part;
 use scripts::reading::place;
 use scripts::showing::print;
 use scripts::showing::print_number;
+use sheets::Sheet;
 
 // What the buffer holds before each call.
 const BEFORE: u8 = 170;
@@ -151,6 +153,89 @@ fn live(job: &[u8], s: State) -> State {
     }
 }
 
+// Where wire e of a sheet stands, and switch e of its plan.
+fn wire_place(sheet: &[u8], e: u8) -> usize {
+    let units = Sheet::HEADER + Sheet::UNIT * byte(sheet, 3) as usize;
+    let nodes = place(units, Sheet::NODE * byte(sheet, 4) as usize);
+    place(nodes, Sheet::WIRE * e as usize)
+}
+
+fn switch_place(plan: &[u8], e: u8) -> usize {
+    let units = Plan::HEADER + Plan::UNIT * byte(plan, 3) as usize;
+    let nodes = place(units, Plan::NODE * byte(plan, 4) as usize);
+    place(nodes, Plan::SWITCH * e as usize)
+}
+
+// The tap of wire e where it leaves the node.
+fn tap_from(sheet: &[u8], plan: &[u8], node: u8, e: u8) -> usize {
+    if byte(sheet, place(wire_place(sheet, e), 2)) == node {
+        pair(plan, place(switch_place(plan, e), 6))
+    } else {
+        0
+    }
+}
+
+fn larger(a: usize, b: usize) -> usize {
+    if a < b { b } else { a }
+}
+
+// The largest tap of the wires that leave the node.
+fn longest_tap(sheet: &[u8], plan: &[u8], node: u8) -> usize {
+    let wires = byte(sheet, 5);
+    let mut most = 0;
+    let mut e = 0;
+    while e < wires {
+        most = larger(most, tap_from(sheet, plan, node, e));
+        e += 1;
+    }
+    most
+}
+
+// The cycle at which the node's first word leaves: its slot and its unit's depth.
+fn leaves_at(sheet: &[u8], node: u8) -> usize {
+    let units = Sheet::HEADER + Sheet::UNIT * byte(sheet, 3) as usize;
+    let at = place(units, Sheet::NODE * node as usize);
+    let unit = Sheet::HEADER + Sheet::UNIT * byte(sheet, place(at, 2)) as usize;
+    place(
+        byte(sheet, place(at, 3)) as usize,
+        byte(sheet, place(unit, 3)) as usize,
+    )
+}
+
+fn show_cycle(cycle: usize, fold: u8, slot: u8) {
+    if fold == 0 {
+        return;
+    }
+    if cycle % (fold as usize) == slot as usize {
+        print_number(cycle as u64);
+    }
+}
+
+// The cycles at which the node's word is live in a slot.
+fn show_live(sheet: &[u8], plan: &[u8], node: u8, slot: u8) {
+    let mut cycle = leaves_at(sheet, node);
+    let last = place(cycle, longest_tap(sheet, plan, node));
+    print(b"live in the slot at");
+    while cycle < last {
+        cycle += 1;
+        show_cycle(cycle, byte(sheet, 2), slot);
+    }
+    print(b"\n");
+}
+
+// 4: a node and a slot of the last sheet.
+fn live_at(job: &[u8], s: State) -> State {
+    let sheet = part(job, s.sheet, s.length);
+    let mut plan = [0u8; 2048];
+    planner::plan(sheet, &mut plan);
+    show_live(sheet, &plan, byte(job, s.at), byte(job, place(s.at, 1)));
+    State {
+        at: place(s.at, 2),
+        sheet: s.sheet,
+        length: s.length,
+    }
+}
+
 fn command(job: &[u8], s: State) -> State {
     let op = byte(job, s.at);
     let next = State {
@@ -161,7 +246,8 @@ fn command(job: &[u8], s: State) -> State {
     match op {
         1 => title(job, next),
         2 => plan(job, next),
-        _ => live(job, next),
+        3 => live(job, next),
+        _ => live_at(job, next),
     }
 }
 

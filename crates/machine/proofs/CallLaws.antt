@@ -1,7 +1,6 @@
 -- What the calls answer and leave, step by step of their code: refused by the plan, by the lent slices or by t, and done.
 -- Assumes nothing.
-use mathlib.Core.Path.{_≡_, refl, sym, ap, _∙_, subst⁻¹}
-use mathlib.Core.Logic.{_⊎_, inl, inr}
+use mathlib.Core.Path.{_≡_, refl, sym, ap, _∙_}
 use mathlib.Core.Bool.{false, not, _&&_, and-false}
 use mathlib.Core.List.{List}
 use Prim.Native.Nat.{ℕ, zero, suc, _<_, _≤_}
@@ -13,15 +12,14 @@ use Rattle.words.specs.Loops.{unless, _then_}
 use Rattle.records.specs.declared.reading.Reason.{Reason}
 use Rattle.records.specs.Units.{channels}
 use Rattle.records.specs.Records.{at, over}
-use Rattle.records.specs.Answers.{reason-number, reason-of, answer}
-use Rattle.records.proofs.AnswerLaws.{reason-back}
+use Rattle.records.specs.Answers.{reason-number}
+use Rattle.records.proofs.AnswerLaws.{reason-positive}
 use Rattle.plans.specs.declared.Plan.{Plan as Header}
 use Rattle.plans.specs.Plan.{plan-read}
-use Rattle.plans.specs.Heads.{plan-head}
 use Rattle.plans.specs.Judging.{plan-fault}
-use Rattle.plans.proofs.JudgingLaws.{plan-faults-one}
 use Rattle.judging.specs.declared.PlanRead.the-variants as P
 use Rattle.judging.specs.Answers.{plan-answer}
+use Rattle.judging.proofs.AnswerLaws.{why-number, got-fine, got-whole}
 use Rattle.cycle.specs.Cycle.{size, leaving}
 use Rattle.cycle.specs.Taken.{Taken}
 use Rattle.cycle.specs.Given.{ResultsOf}
@@ -33,27 +31,13 @@ use Rattle.machine.proofs.SteppingLaws.{room-test, clear-kept, clear-do
 
 -- ---- the judge's answer
 
-refused-at : (f : ℕ) (p : Header) (why : Reason) → (f ≤ 5) ⊎ (f ≡ 9) → answer (P.Got p) P.Refused f ≡ P.Refused why → (reason-number why ≡ f) × (0 < f)
-unfolding reason-of
-refused-at zero p why one e = let z : _≡_ {A = ℕ} 0 1 = cc in absurd (omega arith)
-refused-at (suc n) p why one e =
-    let r : reason-of (suc n) ≡ why = cc in
-    let back : reason-number (reason-of (suc n)) ≡ suc n = elim one [ inl l ↦ reason-back (suc n) (omega arith) l | inr k ↦ subst⁻¹ (λ (z : ℕ). reason-number (reason-of z) ≡ z) k refl ] in
-    (ap reason-number (sym r) ∙ back, omega arith)
-
-got-at : (f : ℕ) (p q : Header) → answer (P.Got p) P.Refused f ≡ P.Got q → (q ≡ p) × (f ≡ 0)
-got-at zero p q e = (cc, refl)
-got-at (suc n) p q e = let z : _≡_ {A = ℕ} 0 1 = cc in absurd (omega arith)
-
 -- a plan that the judge got has no fault
 pub got-taken : (b : List ℕ) (p : Header) → plan-answer b ≡ P.Got p → Taken b p
-unfolding plan-answer
-got-taken b p e = let g = got-at (plan-fault b) (plan-head b) p e in record { head = g .0; fine = g .1 }
+got-taken b p e = record { head = got-whole b p e .said; fine = got-fine b p e }
 
 -- a reason has the fault's number
 pub why-fault : (b : List ℕ) (why : Reason) → plan-answer b ≡ P.Refused why → (reason-number why ≡ plan-fault b) × (0 < plan-fault b)
-unfolding plan-answer
-why-fault b why e = refused-at (plan-fault b) (plan-head b) why (plan-faults-one b (plan-read b)) e
+why-fault b why e = let n = why-number b why e in (n, omega (arith, n, reason-positive why))
 
 then-first : (a b : ℕ) → 0 < a → (a then b) ≡ a
 then-first zero b h = absurd (omega arith)
