@@ -4,8 +4,8 @@ ghost use lib.IntN.{pos, _-ℤ_};
 ghost use mir.Syntax.{w32};
 ghost use mir.Val.{SFits};
 use libc::STDOUT_FILENO;
-use words::time::Cycles;
-use words::time::Iterations;
+use times::Cycles;
+use times::Iterations;
 
 fn print(text: &[u8]) {
     io::write_all(STDOUT_FILENO, text);

@@ -16,10 +16,10 @@ use Rattle.records.specs.Answers.{channel-of}
 use Rattle.plans.specs.declared.Plan as Head
 use Rattle.plans.specs.Plan.{PlanNode, unit-in, node-in, plan-read}
 use Rattle.plans.proofs.ReadLaws.{fold-read, nodes-read}
-use Rattle.cycle.specs.Taken.{Taken}
+use Rattle.memory.specs.Taken.{Taken}
 use Rattle.cycle.specs.Given.{node-in-slot, begun-by, given}
 use Rattle.plans.proofs.WholeLaws.{folds-so, units-so, nodes-so, node-so}
-use Rattle.cycle.proofs.TakenLaws.{whole-taken, judgement, counts-taken, few-units, node-fine}
+use Rattle.memory.proofs.TakenLaws.{whole-taken, judgement, counts-taken, few-units, node-fine}
 
 module _ (b : List ℕ) (p : Head.Plan) (t : Taken b p) where
   pub turns : 0 < p .fold

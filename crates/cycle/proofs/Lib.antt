@@ -1,9 +1,6 @@
 -- Laws.
-pub mod MemoryLaws
-pub mod TakenLaws
-pub mod PartLaws
-pub mod ShiftLaws
+pub mod RunLaws
+pub mod InputLaws
 pub mod LastLaws
 pub mod ResultLaws
 pub mod GivenLaws
-pub mod MovingLaws

@@ -1,50 +1,20 @@
--- The cycle machine: its memory, clearing, and one step. 01, "One cycle". Assumes nothing.
+-- One step of the cycle machine: the words at the inputs, the results, the memory afterwards, and a run of steps. 01, "One cycle".
+-- Assumes nothing.
 use mathlib.Core.Bool.{cond}
 use mathlib.Core.Option.{Option, some, none}
-use mathlib.Core.List.{List, [], _∷_, _++_}
-use Prim.Native.Nat.{ℕ, zero, suc, _+_, _-_, _/_, _%_}
+use mathlib.Core.List.{List, _∷_, _++_}
+use Prim.Native.Nat.{ℕ, zero, suc, _/_, _%_}
 use lib.Dec.{ltb}
-use lib.ListN.{length, take, drop, replicate}
+use lib.ListN.{length, take, drop}
 use lib.IntN.{natAbs}
-use Rattle.words.specs.Loops.{tab, lowest}
+use Rattle.words.specs.Loops.{lowest}
 use Rattle.records.specs.Units.{value, word-before}
 use Rattle.records.specs.Records.{at, runs-in}
-use Rattle.plans.specs.Plan.{Plan, unit-in, node-in, switch-in}
+use Rattle.plans.specs.Plan.{Plan, node-in, switch-in}
 use Rattle.plans.specs.Judging.{switched}
+use Rattle.memory.specs.Memory.{places, base, size, blocks, cleared, reading}
 
--- ---- memory
-
--- "for each unit depth + line length words"
-abbrev pub places : Plan → ℕ → ℕ
-places p q = unit-in p q .unit .depth + unit-in p q .line
-
--- how many places the units before unit q have
-unfoldable pub base : Plan → ℕ → ℕ
-base p zero = 0
-base p (suc q) = base p q + places p q
-
--- the memory's words: "word 0 is the cycle number t; then" all places
-unfoldable pub size : Plan → ℕ
-size p = suc (base p (length (p .units)))
-
--- place i of unit q: "newest first"
-abbrev pub place : Plan → List ℕ → ℕ → ℕ → ℕ
-place p m q i = at m (suc (base p q + i))
-
--- what the first n units have, one after the other
-unfoldable pub blocks : (ℕ → List ℕ) → ℕ → List ℕ
-blocks f zero = []
-blocks f (suc q) = blocks f q ++ f q
-
--- "Clearing writes 0 to all of these."
-unfoldable pub cleared : Plan → List ℕ → List ℕ
-cleared p m = (0 ∷ replicate (base p (length (p .units))) word-before) ++ drop (size p) m
-
--- ---- one cycle: "all as they stood before the step", in memory m, with the channels' words c
-
--- "tap d reads place P−1+d"
-abbrev pub reading : Plan → List ℕ → ℕ → ℕ → ℕ
-reading p m q d = place p m q (unit-in p q .unit .depth - 1 + d)
+-- "all as they stood before the step", in memory m, with the channels' words c
 
 -- what a switch reads; an input without one reads 0
 abbrev pub through : Plan → List ℕ → Option ℕ → ℕ
@@ -76,10 +46,6 @@ moved p m c q = take (places p q) (result p m c q ∷ drop (suc (base p q)) m)
 -- "t rises by 1"; "Words beyond these stay."
 unfoldable pub stepped : Plan → List ℕ → List ℕ → List ℕ
 stepped p m c = suc (at m 0) ∷ (blocks (moved p m c) (length (p .units)) ++ drop (size p) m)
-
--- "place P−1 is the word leaving now", "the leaving words go to the output, one per unit"
-unfoldable pub leaving : Plan → List ℕ → List ℕ
-leaving p m = tab (length (p .units)) (λ q. reading p m q 0)
 
 -- the memory before cycle t, stepped from cleared memory on; `hand t` are the channels' words at cycle t
 unfoldable pub run : Plan → List ℕ → (ℕ → List ℕ) → ℕ → List ℕ

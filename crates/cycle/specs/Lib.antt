@@ -1,5 +1,4 @@
--- What a reader must believe of one cycle: the machine's memory, clearing, and a step.
+-- What a reader must believe of one cycle: a step, and what the records of a slot bring to it.
 pub mod Cycle
-pub mod Taken
+pub mod Inputs
 pub mod Given
-pub mod Moving

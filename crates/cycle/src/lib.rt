@@ -1,67 +1,28 @@
-// One cycle of a plan that has been judged: where its places stand, the words at the inputs, the results, and the places moved by one.
+// One cycle of a plan that has been judged: the words at the inputs, and what the units begin.
 ghost use mathlib.Core.Path.{_≡_};
 ghost use Prim.Native.Nat.{_+_, _^_, _<_, _≤_};
 ghost use lib.ListN.{length};
 ghost use lib.IntN.{pos};
-ghost use Rattle.records.specs.Records.{at, two};
-ghost use Rattle.plans.specs.Plan.{unit-in, switch-in, plan-read};
-ghost use Rattle.cycle.specs.Taken.{Taken, LinesOf, Begins, Ready, Gathered, in-slot, input-place, tapped-place, tapped};
-ghost use Rattle.cycle.specs.Cycle.{size};
+ghost use Rattle.records.specs.Records.{at};
+ghost use Rattle.plans.specs.Plan.{switch-in, plan-read};
+ghost use Rattle.memory.specs.Taken.{Taken, Ready};
+ghost use Rattle.cycle.specs.Inputs.{Begins, Gathered, in-slot, input-place, tapped-place, tapped};
+ghost use Rattle.memory.specs.Memory.{size};
 
-pub mod moving;
 pub mod results;
 
+use memory::Lines;
+use memory::depth_of;
 use plans::Plan;
-use words::time::Cycles;
+use times::Cycles;
 
-// The word of every node before its first.
-pub const WORD_BEFORE: u32 = 0;
-
-// Where the places of each unit begin in memory, and how many words the memory has.
-pub struct Lines {
-    pub at: [usize; 8],
-    pub size: usize,
-}
-
-// How many places the unit whose record begins at o has.
-pub fn places_at(plan: &[u8], o: usize) -> usize
-    requires { ⌜ o + 7 ≤ length (now plan) ⌝ }
-    ensures { λ r. ⌜ (r ≡ at (now (plan .entry)) (o + 3) + two (now (plan .entry)) (o + 4)) × (r < 65791) ⌝ }
-{
-    plans::line_at(plan, o).places(plan[o + 3])
-}
-
-pub fn lines_of(plan: &[u8], p: Plan) -> Lines
-    requires { ⌜ Taken (now plan) p ⌝ }
-    ensures { λ r. ⌜ LinesOf (plan-read (now (plan .entry))) r ⌝ }
-{
-    let units = p.units as usize;
-    let mut at = [0usize; 8];
-    let mut size = 1;
-    let mut q = 0;
-    while q < units {
-        at[q] = size;
-        size += places_at(plan, p.unit_place(q));
-        q += 1;
-    }
-    Lines { at, size }
-}
-
-// The unit that switch e reads, and the depth of a unit.
+// The unit that switch e reads.
 fn source_of(plan: &[u8], p: Plan, e: usize) -> usize
     requires { ⌜ Taken (now plan) p ⌝ }
     requires { ⌜ e < p .wires ⌝ }
     ensures { λ r. ⌜ (r ≡ switch-in (plan-read (now (plan .entry))) e .source) × (r < p .units) ⌝ }
 {
     plan[p.switch_place(e) + 5] as usize
-}
-
-pub fn depth_of(plan: &[u8], p: Plan, q: usize) -> u8
-    requires { ⌜ Taken (now plan) p ⌝ }
-    requires { ⌜ q < p .units ⌝ }
-    ensures { λ r. ⌜ (r ≡ unit-in (plan-read (now (plan .entry))) q .unit .depth) × (0 < r) ⌝ }
-{
-    plan[p.unit_place(q) + 3]
 }
 
 // The tap of switch e.

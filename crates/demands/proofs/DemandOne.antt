@@ -12,9 +12,9 @@ use Rattle.sheets.specs.Sheet.{sheet-of}
 use Rattle.sheets.proofs.SheetLaws.{passed, sound-of}
 use Rattle.folding.proofs.FoldingLaws.{folds-well}
 use Rattle.plans.specs.Plan.{plan-bytes, loop-bytes}
-use Rattle.planner.specs.PlanOf.{plan-of}
+use Rattle.drawing.specs.PlanOf.{plan-of}
 use Rattle.planner.specs.Planning.{answered-length, left-in, Planning}
-use Rattle.planner.proofs.PassedPlan.{length-written}
+use Rattle.drawing.proofs.PassedPlan.{length-written}
 use Rattle.planner.proofs.PlanningLaws.{plan-number-le, at-zero, at-six, length-loop, loop-room, length-over, drop-over, planning-met, planned-once}
 use Rattle.machine.specs.Stepping.{clear-number, clear-memory, step-number, step-memory, step-output}
 use Rattle.machine.proofs.SteppingLaws.{clear-numbers, step-numbers, clear-kept, step-kept, clear-length, clear-rest, step-length, step-rest}

@@ -12,10 +12,11 @@ use Rattle.sheets.specs.Sound.{Sound}
 use Rattle.folding.specs.Folding.{depth-of}
 use Rattle.plans.specs.Plan.{Plan, node-in, plan-read}
 use Rattle.plans.specs.Judging.{plan-fault}
-use Rattle.planner.specs.Folds.{Folds}
-use Rattle.cycle.specs.Cycle.{size, place, result, run, leaving}
+use Rattle.drawing.specs.Folds.{Folds}
+use Rattle.memory.specs.Memory.{size, place, leaving}
+use Rattle.cycle.specs.Cycle.{result, run}
 use Rattle.machine.specs.Stepping.{step-number, step-memory, step-output}
-use Rattle.cycle.proofs.MemoryLaws.{begun, ago-none, ago-some, place-run, length-run, cycle-run}
+use Rattle.cycle.proofs.RunLaws.{begun, ago-none, ago-some, place-run, length-run, cycle-run}
 use Rattle.machine.proofs.SteppingLaws.{clear-fine, clear-is, step-fine, step-is, output-is}
 use Rattle.demands.specs.Graph.{Values, HasValues}
 use Rattle.demands.specs.Running.{Handed, memory, last-cycle, Runs}

@@ -29,10 +29,10 @@ use Rattle.folding.proofs.FoldingLaws.{Foldable, folds-well, loop-of, loop-leav
 use Rattle.plans.specs.Plan.{PlanNode, no-node, node-in, Switch, plan-bytes, loop-bytes, plan-read}
 use Rattle.plans.specs.Judging.{plan-fault}
 use Rattle.plans.proofs.ConcatLaws.{tab-is, at-concat, AllBytes, bytes-concat}
-use Rattle.planner.specs.PlanOf.{plan-of}
-use Rattle.planner.specs.Planning.{plan-length, plan-number, answered-length, left-in, Planning}
-use Rattle.planner.proofs.PlanLaws.{node-is, switch-is, nodes-as, plan-folds}
-use Rattle.planner.proofs.PassedPlan.{reads-back, passes, length-written, plan-small}
+use Rattle.drawing.specs.PlanOf.{plan-of, plan-length}
+use Rattle.planner.specs.Planning.{plan-number, answered-length, left-in, Planning}
+use Rattle.drawing.proofs.PlanLaws.{node-is, switch-is, nodes-as, plan-folds}
+use Rattle.drawing.proofs.PassedPlan.{reads-back, passes, length-written, plan-small}
 use Rattle.planner.proofs.PlanningLaws.{at-zero, at-six}
 use Rattle.demands.specs.Demands.{Bytes, WellPlanned, loop-read, Among, Demand2Met, WaitsByBounds}
 

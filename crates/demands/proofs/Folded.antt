@@ -18,9 +18,10 @@ use Rattle.sheets.specs.Sheet.{Sheet, unit-of, node-of, wire-of}
 use Rattle.sheets.specs.Sound.{Sound}
 use Rattle.folding.specs.Folding.{depth-of}
 use Rattle.plans.specs.Plan.{Plan, unit-in, node-in, switch-in}
-use Rattle.planner.specs.Folds.{Folds}
-use Rattle.cycle.specs.Cycle.{places, size, reading, through, input-word, run, leaving}
-use Rattle.cycle.proofs.MemoryLaws.{begun, ago, ago-none, ago-some, place-run, cycle-run}
+use Rattle.drawing.specs.Folds.{Folds}
+use Rattle.memory.specs.Memory.{places, size, reading, leaving}
+use Rattle.cycle.specs.Cycle.{through, input-word, run}
+use Rattle.cycle.proofs.RunLaws.{begun, ago, ago-none, ago-some, place-run, cycle-run}
 use Rattle.demands.specs.Graph.{Values, delayed, along-wire, arriving, wire-into}
 use Rattle.demands.specs.Running.{Handed, Leaves}
 use Rattle.demands.proofs.TapLaws.{tapℕ, far, near, delayed-shift, no-sample}

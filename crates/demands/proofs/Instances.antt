@@ -19,7 +19,7 @@ use Rattle.folding.specs.Folding
 use Rattle.folding.specs.Lifetime
 use Rattle.plans.specs.Plan
 use Rattle.plans.specs.Judging
-use Rattle.planner.specs.PlanOf
+use Rattle.drawing.specs.PlanOf
 use Rattle.planner.specs.Planning
 use Rattle.words.specs.Loops.{every, tab}
 use Rattle.words.proofs.LoopLaws.{passed?, every-at}
@@ -27,10 +27,10 @@ use Rattle.records.specs.Units.{channels}
 use Rattle.records.specs.Records.{at, over}
 use Rattle.sheets.specs.Sheet.{sheet-of}
 use Rattle.plans.specs.Plan.{plan-bytes, loop-bytes, plan-read}
-use Rattle.planner.specs.PlanOf.{plan-of}
+use Rattle.drawing.specs.PlanOf.{plan-of}
 use Rattle.planner.specs.Planning.{plan-number, Planning}
-use Rattle.cycle.specs.Cycle
-use Rattle.cycle.specs.Cycle.{size}
+use Rattle.memory.specs.Memory
+use Rattle.memory.specs.Memory.{size}
 use Rattle.demands.specs.Cases
 use Rattle.demands.specs.Cases.{loop-of-two, port-and-scale}
 use Rattle.demands.specs.Running.{Handed, last-cycle, Runs}
@@ -48,7 +48,7 @@ tested b h i = elim (passed? (ltb i (length b))) [
 ]
 
 -- a sheet that the planner passes, with the room its plan needs
-passed-result : (b before : List ℕ) → plan-number b (length before) ≡ 0 → Planning b before 0 (Planning.plan-length b) (over (plan-bytes (plan-of (sheet-of b))) before)
+passed-result : (b before : List ℕ) → plan-number b (length before) ≡ 0 → Planning b before 0 (PlanOf.plan-length b) (over (plan-bytes (plan-of (sheet-of b))) before)
 passed-result b before h = record { number-is = sym h; fixed = λ six. (refl, refl); shown = λ six. absurd (omega arith) }
 
 -- ---- case 9
@@ -68,7 +68,7 @@ pub demand-2-on-9 : WellPlanned (sheet-of (loop-of-two 1)) (plan-read (take 57 (
 demand-2-on-9 = demand-2 (loop-of-two 1) room 0 57 after-9 bytes-9 planned-9 .at-0 refl
 
 size-9 : size (plan-read (take 57 after-9)) ≡ 5
-unfolding room Cases.loop-of-two Cycle.base Cycle.size Loops.tab Loops.every Loops.some-of Loops.total Loops.largest Loops.count Loops.lowest Loops.first Words.floor Words.residue Words.signed Words.sum Words.difference Words.scale Units.value Records.reading-fault Records.clashes Records.occupied Records.fed-once Sheet.sheet-of Sheet.sheet-faults Walks.minℤ Walks.better Walks.next Walks.row Walks.settled Walks.settles Walks.chain Walks.foldable Walks.deepest Walks.starts Folding.raw Folding.bound Folding.wait Folding.tap Lifetime.longest-wait Lifetime.falls Lifetime.live Lifetime.registers Plan.concat Plan.plan-bytes Plan.plan-read Judging.longest-tap Judging.figures-right Judging.plan-faults PlanOf.plan-of Planning.plan-number
+unfolding room Cases.loop-of-two Memory.base Memory.size Loops.tab Loops.every Loops.some-of Loops.total Loops.largest Loops.count Loops.lowest Loops.first Words.floor Words.residue Words.signed Words.sum Words.difference Words.scale Units.value Records.reading-fault Records.clashes Records.occupied Records.fed-once Sheet.sheet-of Sheet.sheet-faults Walks.minℤ Walks.better Walks.next Walks.row Walks.settled Walks.settles Walks.chain Walks.foldable Walks.deepest Walks.starts Folding.raw Folding.bound Folding.wait Folding.tap Lifetime.longest-wait Lifetime.falls Lifetime.live Lifetime.registers Plan.concat Plan.plan-bytes Plan.plan-read Judging.longest-tap Judging.figures-right Judging.plan-faults PlanOf.plan-of Planning.plan-number
 size-9 = refl
 
 no-port-9 : (x : ℕ) → x < length (sheet-of (loop-of-two 1) .nodes) → Sheet.node-of (sheet-of (loop-of-two 1)) x .op ≡ 0 → ⊥
@@ -133,7 +133,7 @@ unfolding Cases.port-and-scale
 planned-port = passed-result port-and-scale room-49 port-number
 
 size-port : size (plan-read (take 49 after-port)) ≡ 4
-unfolding Cases.port-and-scale Cycle.base Cycle.size Loops.tab Loops.every Loops.some-of Loops.total Loops.largest Loops.count Loops.lowest Loops.first Words.floor Words.residue Words.signed Words.sum Words.difference Words.scale Units.value Records.reading-fault Records.clashes Records.occupied Records.fed-once Sheet.sheet-of Sheet.sheet-faults Walks.minℤ Walks.better Walks.next Walks.row Walks.settled Walks.settles Walks.chain Walks.foldable Walks.deepest Walks.starts Folding.raw Folding.bound Folding.wait Folding.tap Lifetime.longest-wait Lifetime.falls Lifetime.live Lifetime.registers Plan.concat Plan.plan-bytes Plan.plan-read Judging.longest-tap Judging.figures-right Judging.plan-faults PlanOf.plan-of Planning.plan-number
+unfolding Cases.port-and-scale Memory.base Memory.size Loops.tab Loops.every Loops.some-of Loops.total Loops.largest Loops.count Loops.lowest Loops.first Words.floor Words.residue Words.signed Words.sum Words.difference Words.scale Units.value Records.reading-fault Records.clashes Records.occupied Records.fed-once Sheet.sheet-of Sheet.sheet-faults Walks.minℤ Walks.better Walks.next Walks.row Walks.settled Walks.settles Walks.chain Walks.foldable Walks.deepest Walks.starts Folding.raw Folding.bound Folding.wait Folding.tap Lifetime.longest-wait Lifetime.falls Lifetime.live Lifetime.registers Plan.concat Plan.plan-bytes Plan.plan-read Judging.longest-tap Judging.figures-right Judging.plan-faults PlanOf.plan-of Planning.plan-number
 size-port = refl
 
 units-port : length (sheet-of port-and-scale .units) ≤ 2

@@ -21,8 +21,8 @@ use Rattle.sheets.specs.Sound.{Sound}
 use Rattle.folding.specs.Folding.{depth-of}
 use Rattle.plans.specs.Plan.{Plan, node-in, switch-in}
 use Rattle.plans.specs.Judging.{switched}
-use Rattle.planner.specs.Folds.{Folds}
-use Rattle.planner.proofs.FoldsLaws.{runs-in-is, switched-is}
+use Rattle.drawing.specs.Folds.{Folds}
+use Rattle.drawing.proofs.FoldsLaws.{runs-in-is, switched-is}
 use Rattle.cycle.specs.Cycle.{through, input-word, worked, result}
 use Rattle.demands.specs.Graph.{wire-into}
 use Rattle.demands.proofs.GraphLaws.{Ordered}

@@ -15,15 +15,14 @@ use Rattle.folding.specs.Folding
 use Rattle.folding.specs.Lifetime
 use Rattle.plans.specs.Plan
 use Rattle.plans.specs.Judging
-use Rattle.planner.specs.PlanOf
+use Rattle.drawing.specs.PlanOf
 use Rattle.planner.specs.Planning
 use Rattle.sheets.specs.Sheet.{sheet-of}
-use Rattle.folding.specs.Walks.{Loop}
+use Rattle.folding.specs.Walks.{Loop, start}
 use Rattle.folding.specs.Folding.{net}
 use Rattle.folding.specs.Lifetime.{live}
-use Rattle.folding.specs.Walks.{start}
 use Rattle.plans.specs.Plan.{plan-bytes}
-use Rattle.planner.specs.PlanOf.{plan-of}
+use Rattle.drawing.specs.PlanOf.{plan-of}
 use Rattle.demands.specs.Cases
 use Rattle.demands.specs.Cases.{loop-of-two, worked-cases, paper-says, biquad}
 

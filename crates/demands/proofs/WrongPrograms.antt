@@ -15,7 +15,7 @@ use Rattle.folding.specs.Folding
 use Rattle.folding.specs.Lifetime
 use Rattle.plans.specs.Plan
 use Rattle.plans.specs.Judging
-use Rattle.planner.specs.PlanOf
+use Rattle.drawing.specs.PlanOf
 use Rattle.planner.specs.Planning
 use Rattle.records.specs.Records.{at}
 use Rattle.sheets.specs.Sheet.{sheet-of}
@@ -23,13 +23,15 @@ use Rattle.folding.specs.Latest.{IsChain}
 use Rattle.folding.specs.Folding.{net}
 use Rattle.folding.specs.Lifetime.{registers}
 use Rattle.plans.specs.Plan.{Plan, node-in, plan-read, plan-bytes}
-use Rattle.planner.specs.PlanOf.{plan-of}
+use Rattle.drawing.specs.PlanOf.{plan-of}
 use Rattle.planner.specs.Planning.{plan-number, Planning}
+use Rattle.memory.specs.Memory
 use Rattle.cycle.specs.Cycle
-use Rattle.cycle.specs.Cycle.{size, places, place, stepped}
+use Rattle.memory.specs.Memory.{size, places, place}
+use Rattle.cycle.specs.Cycle.{stepped}
 use Rattle.machine.specs.Stepping
 use Rattle.machine.specs.Stepping.{step-number, step-memory, Stepping}
-use Rattle.cycle.proofs.MemoryLaws.{older}
+use Rattle.cycle.proofs.RunLaws.{older}
 use Rattle.machine.proofs.SteppingLaws.{step-does}
 use Rattle.demands.specs.Cases
 use Rattle.demands.specs.Cases.{loop-of-two, loop-of-one}
@@ -81,7 +83,7 @@ unfoldable pub case-9-plan : List ℕ
 case-9-plan = plan-bytes (plan-of (sheet-of (loop-of-two 1)))
 
 pub works-at-1 : step-memory case-9-plan (1 ∷ 11 ∷ 21 ∷ 22 ∷ 23 ∷ []) (replicate 16 0) (0 ∷ 0 ∷ []) ≡ (2 ∷ 0 ∷ 4294967285 ∷ 21 ∷ 22 ∷ [])
-unfolding case-9-plan Cases.loop-of-two Cycle.base Cycle.size Cycle.blocks Cycle.result Cycle.stepped Cycle.leaving Stepping.step-number Stepping.step-memory Loops.tab Loops.every Loops.some-of Loops.total Loops.largest Loops.count Loops.lowest Loops.first Words.floor Words.residue Words.signed Words.sum Words.difference Words.scale Units.value Records.reading-fault Records.clashes Records.occupied Records.fed-once Sheet.sheet-of Sheet.sheet-faults Walks.minℤ Walks.better Walks.next Walks.row Walks.settled Walks.settles Walks.chain Walks.foldable Walks.deepest Walks.starts Folding.raw Folding.bound Folding.wait Folding.tap Lifetime.longest-wait Lifetime.falls Lifetime.live Lifetime.registers Plan.concat Plan.plan-bytes Plan.plan-read Judging.longest-tap Judging.figures-right Judging.plan-faults PlanOf.plan-of Planning.plan-number
+unfolding case-9-plan Cases.loop-of-two Memory.base Memory.size Memory.blocks Cycle.result Cycle.stepped Memory.leaving Stepping.step-number Stepping.step-memory Loops.tab Loops.every Loops.some-of Loops.total Loops.largest Loops.count Loops.lowest Loops.first Words.floor Words.residue Words.signed Words.sum Words.difference Words.scale Units.value Records.reading-fault Records.clashes Records.occupied Records.fed-once Sheet.sheet-of Sheet.sheet-faults Walks.minℤ Walks.better Walks.next Walks.row Walks.settled Walks.settles Walks.chain Walks.foldable Walks.deepest Walks.starts Folding.raw Folding.bound Folding.wait Folding.tap Lifetime.longest-wait Lifetime.falls Lifetime.live Lifetime.registers Plan.concat Plan.plan-bytes Plan.plan-read Judging.longest-tap Judging.figures-right Judging.plan-faults PlanOf.plan-of Planning.plan-number
 works-at-1 = refl
 
 -- a made-up chain: walks admit one figure alone

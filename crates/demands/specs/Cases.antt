@@ -11,7 +11,8 @@ use Rattle.sheets.specs.Sheet.{sheet-of}
 use Rattle.folding.specs.Walks.{Net, start, chain}
 use Rattle.folding.specs.Folding.{net, raw, bound, tap}
 use Rattle.folding.specs.Lifetime.{registers}
-use Rattle.planner.specs.Planning.{plan-length, plan-number}
+use Rattle.drawing.specs.PlanOf.{plan-length}
+use Rattle.planner.specs.Planning.{plan-number}
 
 -- "Multipliers A, B on units 0, 1, depth 1, N=4, A slot 0, B slot 1, A→B one delay, B→A none", with "K 16384 and −32768"; case 10 is
 -- "Same, B in slot 0"

@@ -18,9 +18,11 @@ use Rattle.folding.specs.Folding.{net, wait, Retiming}
 use Rattle.folding.specs.Lifetime.{last-live, live, registers, waiting}
 use Rattle.plans.specs.Plan.{Plan, node-in, switch-in, loop-length, plan-read}
 use Rattle.plans.specs.Judging.{plan-fault}
-use Rattle.planner.specs.Folds.{Folds}
-use Rattle.planner.specs.Planning.{plan-length, Planning}
-use Rattle.cycle.specs.Cycle.{size, run, leaving}
+use Rattle.drawing.specs.Folds.{Folds}
+use Rattle.drawing.specs.PlanOf.{plan-length}
+use Rattle.planner.specs.Planning.{Planning}
+use Rattle.memory.specs.Memory.{size, leaving}
+use Rattle.cycle.specs.Cycle.{run}
 use Rattle.machine.specs.Stepping.{Clearing, Stepping}
 use Rattle.demands.specs.Graph.{HasValues}
 use Rattle.demands.specs.Running.{Handed, Leaves, last-cycle, Runs}

@@ -9,7 +9,8 @@ use Rattle.records.specs.Records.{at}
 use Rattle.sheets.specs.Sheet.{Sheet, unit-of, node-of}
 use Rattle.folding.specs.Folding.{depth-of}
 use Rattle.plans.specs.Plan.{Plan, node-in}
-use Rattle.cycle.specs.Cycle.{places, place, result}
+use Rattle.memory.specs.Memory.{places, place}
+use Rattle.cycle.specs.Cycle.{result}
 use Rattle.machine.specs.Stepping.{clear-number, clear-memory, step-number, step-memory, step-output}
 use Rattle.demands.specs.Graph.{delayed}
 

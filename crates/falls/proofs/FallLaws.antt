@@ -7,7 +7,7 @@ use native.Mathlib.Omega.{arith}
 use lib.ListN.{length, getD}
 use lib.IntN.{pos, _+ℤ_}
 use lib.Signed.{_≤ℤ_, _<ℤ_}
-use Rattle.words.specs.declared.time.Iterations.{Iterations}
+use Rattle.times.specs.declared.Iterations.{Iterations}
 use Rattle.words.proofs.Ints.{ints, sumℤ}
 use Rattle.records.specs.Records.{most-nodes}
 use Rattle.folding.specs.Walks.{Net, Walk, along, round}

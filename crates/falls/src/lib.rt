@@ -13,7 +13,7 @@ use rounds::Layout;
 use rounds::end_at;
 use rounds::no_totals;
 use rounds::wide;
-use words::time::Iterations;
+use times::Iterations;
 
 // The choices of as many rounds as there are nodes, and a node whose total fell with the last.
 fn keep(

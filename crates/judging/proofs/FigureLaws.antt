@@ -14,9 +14,9 @@ use lib.Count.{ones}
 use lib.ListN.{length, getD, set, replicate, getD-replicate}
 use lib.Seq.{getD-set-same, getD-set-other}
 use borrow.Author.Tests.{leb-true, leb-false, eq-eqb, ne-eqb}
-use Rattle.words.specs.declared.time.Cycles.{Cycles}
+use Rattle.times.specs.declared.Cycles.{Cycles}
 use Rattle.words.specs.Loops.{largest}
-use Rattle.words.specs.Times.{eqZ}
+use Rattle.times.specs.Times.{eqZ}
 use Rattle.words.proofs.LoopLaws.{passed?}
 use Rattle.records.specs.declared.Node.{Node}
 use Rattle.slots.specs.declared.Slots.{Slots}

@@ -7,7 +7,7 @@ use lib.Dec.{ltb, leb, eqb}
 use lib.ListN.{length, getD}
 use lib.IntN.{ℤ, pos}
 use lib.Count.{ones}
-use Rattle.words.specs.declared.time.Cycles.{Cycles}
+use Rattle.times.specs.declared.Cycles.{Cycles}
 use Rattle.words.specs.Loops.{some-of, first, unless, _then_}
 use Rattle.words.specs.Masks.{in-mask}
 use Rattle.records.specs.Units.{inputs}

@@ -8,8 +8,8 @@ ghost use Rattle.judging.specs.Answers.{Held, Occupied, TapsOf, UnitFigu
 use plans::Plan;
 use plans::idle_at;
 use plans::line_at;
+use times::Cycles;
 use words::masks;
-use words::time::Cycles;
 
 // Whether a unit's figures are right: its line is the largest tap, its idle count N less the ones of its mask.
 fn unit_right(b: &[u8], p: Plan, q: usize, tap: Cycles, mask: u32) -> bool

@@ -19,8 +19,8 @@ use records::reading::marked;
 use records::reading::unit_in;
 use slots::feeding::Fed;
 use slots::feeding::Input;
+use times::Cycles;
 use words::masks;
-use words::time::Cycles;
 
 pub enum SwitchRead {
     Got(Joint),

@@ -9,9 +9,9 @@ use native.Mathlib.Omega.{arith}
 use lib.Dec.{ltb}
 use lib.ListN.{length, getD}
 use lib.IntN.{pos}
-use Rattle.words.specs.declared.time.Cycles.{Cycles}
+use Rattle.times.specs.declared.Cycles.{Cycles}
 use Rattle.words.specs.Loops.{total, largest}
-use Rattle.words.specs.Times.{cycles-at}
+use Rattle.times.specs.Times.{cycles-at}
 use Rattle.words.proofs.LoopLaws.{total-cong, largest-cong}
 use Rattle.words.proofs.CountLaws.{total-sum}
 use Rattle.sheets.specs.declared.Sheet as Head

@@ -11,7 +11,7 @@ ghost use Rattle.folding.specs.Lifetime.{first-live, registers};
 ghost use Rattle.waits.specs.Fine.{Fine, Longest, from-node};
 ghost use Rattle.lifetimes.specs.Counts.{LiveOf};
 use sheets::Sheet;
-use words::time::Cycles;
+use times::Cycles;
 
 // The slot after t.
 fn next_slot(t: u32, fold: u32) -> u32

@@ -23,10 +23,10 @@ use Rattle.plans.specs.Judging.{plan-fault}
 use Rattle.plans.proofs.ConcatLaws.{at-concat}
 use Rattle.planner.specs.declared.Planned.{Planned}
 use Rattle.planner.specs.declared.Planned.the-variants as P
-use Rattle.planner.specs.PlanOf.{plan-of}
+use Rattle.drawing.specs.PlanOf.{plan-of}
 use Rattle.planner.specs.Planning.{Planning}
 use Rattle.planner.specs.Calls.{planned-number, planned-length}
-use Rattle.planner.proofs.PassedPlan.{length-written, passes}
+use Rattle.drawing.proofs.PassedPlan.{length-written, passes}
 use Rattle.planner.proofs.PlanningLaws.{at-zero, at-six, length-loop}
 use Rattle.text.specs.Texting.{wires-shown, loop-whole, wire-fault, loop-fault}
 use Rattle.listings.specs.Listing.{answer-text, said-fault, said-text}

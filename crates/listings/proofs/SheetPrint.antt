@@ -13,9 +13,9 @@ use Rattle.sheets.proofs.SheetLaws.{passed, sound-of}
 use Rattle.folding.proofs.FoldingLaws.{folds-well}
 use Rattle.plans.specs.Plan.{plan-bytes, loop-bytes, loop-wire-bytes}
 use Rattle.plans.proofs.ConcatLaws.{tab-is, length-concat, at-concat}
-use Rattle.planner.specs.PlanOf.{plan-of}
+use Rattle.drawing.specs.PlanOf.{plan-of}
 use Rattle.planner.specs.Planning.{answered-length, left-in}
-use Rattle.planner.proofs.PassedPlan.{reads-back, length-written}
+use Rattle.drawing.proofs.PassedPlan.{reads-back, length-written}
 use Rattle.planner.proofs.PlanningLaws.{at-zero, length-loop}
 use Rattle.lines.specs.Text.{plan-text, loop-text}
 use Rattle.text.specs.Texting.{wires-shown, wire-at, loop-wires}

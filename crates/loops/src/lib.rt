@@ -15,7 +15,7 @@ use falls::fall;
 use rounds::Layout;
 use rounds::end_at;
 use rounds::wide;
-use words::time::Iterations;
+use times::Iterations;
 
 // A part of a walk, by its first and its last place.
 pub struct Span {

@@ -20,11 +20,12 @@ use Rattle.plans.specs.Judging.{plan-fault}
 use Rattle.judging.specs.declared.PlanRead.the-variants as P
 use Rattle.judging.specs.Answers.{plan-answer}
 use Rattle.judging.proofs.AnswerLaws.{why-number, got-fine, got-whole}
-use Rattle.cycle.specs.Cycle.{size, leaving}
-use Rattle.cycle.specs.Taken.{Taken}
+use Rattle.memory.specs.Memory.{size, leaving}
+use Rattle.memory.specs.Taken.{Taken}
 use Rattle.cycle.specs.Given.{ResultsOf}
-use Rattle.cycle.specs.Moving.{wiped, advanced}
-use Rattle.cycle.proofs.MovingLaws.{cleared-so, advanced-so}
+use Rattle.moving.specs.Moving.{wiped, advanced}
+use Rattle.moving.proofs.MovingLaws.{cleared-so}
+use Rattle.machine.proofs.AdvanceLaws.{advanced-so}
 use Rattle.machine.specs.Stepping.{last-count, clear-number, step-number, Clearing, Stepping}
 use Rattle.machine.specs.Calls.{Needing}
 use Rattle.machine.proofs.SteppingLaws.{room-test, clear-kept, clear-does, clear-fine, step-kept, step-does, step-fine}

@@ -1,4 +1,5 @@
 -- Laws.
 pub mod SteppingLaws
+pub mod AdvanceLaws
 pub mod CallLaws
 pub mod OneResult

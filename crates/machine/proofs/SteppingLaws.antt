@@ -19,9 +19,10 @@ use Rattle.records.specs.Records.{at, over}
 use Rattle.plans.specs.Plan.{Plan, plan-read}
 use Rattle.plans.specs.Judging.{plan-fault}
 use Rattle.plans.proofs.JudgingLaws.{plan-faults-one}
-use Rattle.cycle.specs.Cycle.{size, cleared, stepped, reading, leaving}
+use Rattle.memory.specs.Memory.{size, cleared, reading, leaving}
+use Rattle.cycle.specs.Cycle.{stepped}
 use Rattle.machine.specs.Stepping.{last-count, clear-number, clear-memory, step-number, step-memory, step-output}
-use Rattle.cycle.proofs.MemoryLaws.{length-cleared, length-stepped, rest-cleared, rest-stepped}
+use Rattle.cycle.proofs.RunLaws.{length-cleared, length-stepped, rest-cleared, rest-stepped}
 
 pub length-leaving : (p : Plan) (m : List ℕ) → length (leaving p m) ≡ length (p .units)
 unfolding leaving

@@ -6,7 +6,7 @@ use Prim.Native.Nat.{ℕ}
 use lib.Dec.{eqb}
 use Rattle.plans.specs.Plan.{plan-read}
 use Rattle.plans.specs.Judging.{plan-fault}
-use Rattle.cycle.specs.Cycle.{size}
+use Rattle.memory.specs.Memory.{size}
 use Rattle.machine.specs.declared.Cleared.{Cleared}
 use Rattle.machine.specs.declared.Cleared.the-variants as C
 use Rattle.machine.specs.declared.Stepped.{Stepped}

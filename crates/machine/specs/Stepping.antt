@@ -11,7 +11,8 @@ use Rattle.records.specs.Units.{channels}
 use Rattle.records.specs.Records.{at, over}
 use Rattle.plans.specs.Plan.{plan-read}
 use Rattle.plans.specs.Judging.{plan-fault}
-use Rattle.cycle.specs.Cycle.{size, cleared, stepped, leaving}
+use Rattle.memory.specs.Memory.{size, cleared, leaving}
+use Rattle.cycle.specs.Cycle.{stepped}
 
 -- "t is already 4,294,967,295" is 8
 abbrev pub last-count : ℕ

@@ -2,16 +2,16 @@
 // the plan is judged first, then the lent slices, then t, and a refusal changes nothing.
 ghost use mathlib.Core.Path.{_≡_};
 ghost use Rattle.records.specs.Answers.{reason-number};
-ghost use Rattle.cycle.specs.Taken.{Taken};
+ghost use Rattle.memory.specs.Taken.{Taken};
 ghost use Rattle.machine.specs.Stepping.{Clearing, Stepping};
 ghost use Rattle.machine.specs.Calls.{cleared-number, stepped-number, needed-number, needed-words, Needing};
-use cycle::lines_of;
-use cycle::moving::advance;
-use cycle::moving::leave;
-use cycle::moving::wipe;
 use cycle::results::results;
 use judging::PlanRead;
 use judging::judge;
+use memory::lines_of;
+use moving::advance;
+use moving::leave;
+use moving::wipe;
 use plans::Plan;
 use records::Unit;
 use records::reading::Reason;

@@ -20,8 +20,8 @@ use Rattle.waits.specs.Fine.{Fine}
 use Rattle.folding.specs.Walks.{foldable}
 use Rattle.folding.specs.Folding.{net}
 use Rattle.plans.specs.Plan.{plan-bytes}
-use Rattle.planner.specs.PlanOf.{plan-of}
-use Rattle.planner.specs.Planning.{plan-length, plan-number, LoopShown, Planning}
+use Rattle.drawing.specs.PlanOf.{plan-of, plan-length}
+use Rattle.planner.specs.Planning.{plan-number, LoopShown, Planning}
 
 -- ---- the judge's answer
 

@@ -12,7 +12,8 @@ use Rattle.folding.proofs.AlikeLaws.{Alike, loop-cong}
 use Rattle.loops.specs.declared.Looped.{Looped}
 use Rattle.loops.specs.Shown.{Shown}
 use Rattle.plans.specs.Plan.{loop-length, loop-bytes}
-use Rattle.planner.specs.Planning.{plan-length, LoopShown}
+use Rattle.drawing.specs.PlanOf.{plan-length}
+use Rattle.planner.specs.Planning.{LoopShown}
 use Rattle.planner.proofs.PlanningLaws.{loop-room}
 
 module _ (b : List ℕ) (fine : sheet-fault b ≡ 0) (g : Net) (alike : Alike g (net (sheet-of b))) (r : Looped) (shown : Shown g r)

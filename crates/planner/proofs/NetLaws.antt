@@ -6,8 +6,8 @@ use Prim.Native.Nat.{ℕ, _<_}
 use native.Mathlib.Omega.{arith}
 use lib.ListN.{getD}
 use lib.IntN.{pos}
-use Rattle.words.specs.declared.time.Iterations.{Iterations}
-use Rattle.words.specs.Times.{iterations-at}
+use Rattle.times.specs.declared.Iterations.{Iterations}
+use Rattle.times.specs.Times.{iterations-at}
 use Rattle.records.specs.Records.{nodes-in, wires-in, node-place}
 use Rattle.records.specs.Answers.{wire-run}
 use Rattle.sheets.specs.declared.Sheet as Head
@@ -21,7 +21,7 @@ use Rattle.rounds.specs.Rounds.{bytes-net, Wired, Moderate, Timed}
 use Rattle.rounds.proofs.SheetNet.{sheet-alike, sheet-wired, sheet-moderate}
 use Rattle.waits.specs.Fine.{Fine}
 use Rattle.waits.proofs.FineLaws.{passed-so, nodes-so}
-use Rattle.planner.specs.Laying.{TimedSheet}
+use Rattle.planner.specs.Timed.{TimedSheet}
 
 module _ (b : List ℕ) (s : Head.Sheet) (f : Fine b s) (bounds : List Iterations) (are : (e : ℕ) → e < s .wires → iterations-at bounds e ≡ bound (sheet-of b) e)
     (at : ℕ) (there : at ≡ wire-run sheet-format (s .units) (s .nodes) (s .wires) .at) where

@@ -21,7 +21,8 @@ use Rattle.folding.proofs.FoldingLaws.{loop-of}
 use Rattle.folding.proofs.SizeLaws.{small-of, loop-short}
 use Rattle.plans.specs.Plan.{loop-bytes}
 use Rattle.plans.proofs.ConcatLaws.{length-concat}
-use Rattle.planner.specs.Planning.{plan-length, plan-number, answered-length, left-in, Planning}
+use Rattle.drawing.specs.PlanOf.{plan-length}
+use Rattle.planner.specs.Planning.{plan-number, answered-length, left-in, Planning}
 
 pub plan-number-le : (b : List ℕ) (room : ℕ) → plan-number b room ≤ 7
 unfolding plan-number

@@ -1,8 +1,5 @@
--- What a reader must believe of the planner: the plan of a sheet, what it is for a plan to fold a sheet, and what the call answers
--- and leaves on every input.
-pub mod PlanOf
-pub mod Folds
+-- What a reader must believe of the planner: what the call answers and leaves on every input.
 pub mod Planning
-pub mod Laying
+pub mod Timed
 pub mod Calls
 pub mod Figures

@@ -6,16 +6,12 @@ use Prim.Native.Nat.{ℕ, suc, _*_}
 use lib.Dec.{leb, eqb}
 use lib.ListN.{length}
 use Rattle.words.specs.Loops.{unless, _then_}
-use Rattle.records.specs.Records.{over, whole-length}
+use Rattle.records.specs.Records.{over}
 use Rattle.sheets.specs.Sheet.{sheet-of, sheet-fault}
 use Rattle.folding.specs.Walks.{Loop, foldable}
 use Rattle.folding.specs.Folding.{net}
-use Rattle.plans.specs.Plan.{plan-format, plan-bytes, loop-length, loop-bytes}
-use Rattle.planner.specs.PlanOf.{plan-of}
-
--- the length of the plan that a sheet's header asks for
-abbrev pub plan-length : List ℕ → ℕ
-plan-length b = whole-length plan-format b
+use Rattle.plans.specs.Plan.{plan-bytes, loop-length, loop-bytes}
+use Rattle.drawing.specs.PlanOf.{plan-length, plan-of}
 
 -- the number for sheet bytes b and a plan buffer of `room` bytes: the sheet's faults, "then 4, 5, 7, 6"
 unfoldable pub plan-number : List ℕ → ℕ → ℕ

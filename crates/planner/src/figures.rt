@@ -7,8 +7,8 @@ use lifetimes::live_counts;
 use sheets::Sheet;
 use sheets::judging::SheetRead;
 use sheets::judging::judge;
-use words::time::Cycles;
-use words::time::Iterations;
+use times::Cycles;
+use times::Iterations;
 
 // The live count of a slot, of a sheet without fault.
 fn live_judged(b: &[u8], sheet: Sheet, slot: u8) -> u32

@@ -4,22 +4,20 @@ ghost use mathlib.Core.Path.{_≡_};
 ghost use mathlib.Core.Bool.{false};
 ghost use Prim.Native.Nat.{ℕ, _*_, _<_, _≤_};
 ghost use lib.ListN.{length};
-ghost use Rattle.words.specs.Times.{iterations-at};
+ghost use Rattle.times.specs.Times.{iterations-at};
 ghost use Rattle.records.specs.Records.{over};
 ghost use Rattle.records.specs.Answers.{reason-number};
 ghost use Rattle.sheets.specs.Sheet.{sheet-of};
-ghost use Rattle.folding.specs.Walks.{foldable, chain};
+ghost use Rattle.folding.specs.Walks.{foldable};
 ghost use Rattle.folding.specs.Folding.{net, bound};
-ghost use Rattle.plans.specs.Plan.{plan-bytes, loop-bytes, loop-length};
-ghost use Rattle.waits.specs.Fine.{Fine, Started};
-ghost use Rattle.planner.specs.PlanOf.{plan-of};
-ghost use Rattle.planner.specs.Laying.{TimedSheet};
-ghost use Rattle.planner.specs.Planning.{plan-length, LoopShown, Planning};
+ghost use Rattle.plans.specs.Plan.{loop-bytes, loop-length};
+ghost use Rattle.waits.specs.Fine.{Fine};
+ghost use Rattle.drawing.specs.PlanOf.{plan-length};
+ghost use Rattle.planner.specs.Timed.{TimedSheet};
+ghost use Rattle.planner.specs.Planning.{LoopShown, Planning};
 ghost use Rattle.planner.specs.Calls.{planned-number, planned-length};
-use crate::laying::write_nodes;
-use crate::laying::write_switches;
-use crate::laying::write_units;
-use lifetimes::registers;
+use drawing::plan_head;
+use drawing::write_plan;
 use loops::find_loop;
 use plans::Plan;
 use records::reading::Reason;
@@ -28,14 +26,11 @@ use rounds::retime;
 use sheets::Sheet;
 use sheets::judging::SheetRead;
 use sheets::judging::judge;
-use sheets::judging::slots_of;
-use words::time::Cycles;
-use words::time::Iterations;
-use writing::write_header;
+use times::Cycles;
+use times::Iterations;
 use writing::write_loop_wire;
 
 pub mod figures;
-pub mod laying;
 
 // What the planner answers: a case for each of the numbers 0 to 7, with the length where it has one.
 pub enum Planned {
@@ -96,39 +91,6 @@ fn refused(why: Reason) -> Planned
         Reason::Unfed => Planned::Unfed,
         Reason::Figures => Planned::Unfed,
     }
-}
-
-// What the plan of a sheet counts.
-fn plan_head(sheet: Sheet) -> Plan
-    ensures { λ r. ⌜ r ≡ record { fold = sheet .fold; units = sheet .units; nodes = sheet .nodes; wires = sheet .wires } ⌝ }
-{
-    Plan::new(sheet.fold, sheet.units, sheet.nodes, sheet.wires)
-}
-
-// The plan of a sheet that folds, at the head of the buffer.
-fn write_plan(
-    b: &[u8],
-    sheet: Sheet,
-    starts: [Iterations; Sheet::MOST_NODES],
-    rounds: u8,
-    made: [Cycles; Sheet::MOST_WIRES],
-    out: &mut [u8],
-)
-    requires { ⌜ Fine (now b) sheet ⌝ }
-    requires { ⌜ Started (now b) starts ⌝ }
-    requires { ⌜ rounds ≡ chain (net (sheet-of (now b))) ⌝ }
-    requires { ⌜ plan-length (now b) ≤ length (now out) ⌝ }
-    ensures { λ r. ⌜ now (out .exit) ≡ over (plan-bytes (plan-of (sheet-of (now (b .entry))))) (now (out .entry)) ⌝ }
-{
-    let plan = plan_head(sheet);
-    let waited = waits::waits(b, sheet, starts, made);
-    let longest = waited.longest;
-    write_header(out, plan, registers(b, sheet, longest), rounds);
-    let lines = waited.lines;
-    write_units(b, sheet, lines, slots_of(b, sheet), plan.unit_place(0), out);
-    write_nodes(b, sheet, starts, plan.node_place(0), out);
-    let waits = waited.waits;
-    write_switches(b, sheet, waits, plan.switch_place(0), out);
 }
 
 // The wires of a loop, each in its record, at the head of the buffer.

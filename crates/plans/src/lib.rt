@@ -8,8 +8,8 @@ ghost use Rattle.records.specs.Answers.{unit-run, node-run, wire-run};
 ghost use Rattle.plans.specs.Plan.{plan-format};
 ghost use Rattle.plans.specs.Heads.{joint-at};
 use records::reading::Run;
-use words::time::Cycles;
-use words::time::Iterations;
+use times::Cycles;
+use times::Iterations;
 
 // What a plan's header says: N and the counts of units, nodes and switches.
 pub struct Plan {

@@ -11,11 +11,11 @@ use lib.IntN.{ℤ, pos, negsuc, _+ℤ_}
 use lib.Signed.{_≤ℤ_}
 use mir.Syntax.{w32}
 use mir.Val.{SFits}
-use Rattle.words.specs.declared.time.Iterations.{Iterations}
+use Rattle.times.specs.declared.Iterations.{Iterations}
 use Rattle.words.proofs.Ints.{up, down, ints, le-up}
 use Rattle.words.proofs.FitLaws.{fits, sum-size}
 use Rattle.words.proofs.LoopLaws.{passed?, length-tab, getD-tab}
-use Rattle.words.specs.Times.{iterations-at}
+use Rattle.times.specs.Times.{iterations-at}
 use Rattle.records.specs.Records.{most-nodes}
 use Rattle.sheets.specs.Sheet.{most-delays}
 use Rattle.folding.specs.Walks.{Net, row, round, settled, foldable}

@@ -5,8 +5,8 @@ use mathlib.Core.List.{List}
 use Prim.Native.Nat.{ℕ, _<_}
 use native.Mathlib.Omega.{arith}
 use lib.ListN.{length}
-use Rattle.words.specs.declared.time.Iterations.{Iterations}
-use Rattle.words.specs.Times.{iterations-at}
+use Rattle.times.specs.declared.Iterations.{Iterations}
+use Rattle.times.specs.Times.{iterations-at}
 use Rattle.records.specs.Records.{nodes-in, wires-in, node-place}
 use Rattle.sheets.specs.declared.Wire.{Wire}
 use Rattle.sheets.specs.Sheet.{sheet-format, sheet-of}

@@ -12,10 +12,10 @@ use lib.IntN.{ℤ, pos, _-ℤ_}
 use lib.Signed.{leZ}
 use mir.Syntax.{w32}
 use mir.Val.{SFits}
-use Rattle.words.specs.declared.time.Iterations.{Iterations}
+use Rattle.times.specs.declared.Iterations.{Iterations}
 use Rattle.words.proofs.FitLaws.{fits, dif-size}
 use Rattle.words.proofs.LoopLaws.{getD-tab}
-use Rattle.words.specs.Times.{iterations-at}
+use Rattle.times.specs.Times.{iterations-at}
 use Rattle.folding.specs.Walks.{Net, minℤ, round, foldable, latest, deepest, start}
 use Rattle.folding.proofs.StartLaws.{start-is, deepest-met}
 use Rattle.folding.proofs.RoundLaws.{Closed, round-nonpos}

@@ -11,10 +11,10 @@ use lib.Seq.{getD-set-same, getD-set-other}
 use lib.IntN.{ℤ, pos, _+ℤ_}
 use lib.Signed.{ltZ, leZ, _<ℤ_}
 use borrow.Author.Tests.{eq-eqb, ne-eqb}
-use Rattle.words.specs.declared.time.Iterations.{Iterations}
+use Rattle.times.specs.declared.Iterations.{Iterations}
 use Rattle.words.proofs.Ints.{ints, leZ-true, ltZ-true, ltZ-false, le-leZ}
 use Rattle.words.proofs.LoopLaws.{passed?}
-use Rattle.words.specs.Times.{iterations-at}
+use Rattle.times.specs.Times.{iterations-at}
 use Rattle.folding.specs.Walks.{Net, minℤ, better}
 
 min-below : (t y : ℤ) → ltZ y t ≡ true → minℤ t y ≡ y

@@ -7,9 +7,9 @@ use Prim.Native.Nat.{ℕ, _+_, _*_, _<_, _≤_}
 use lib.ListN.{length, getD}
 use lib.IntN.{ℤ, pos, negsuc, _-ℤ_}
 use lib.Signed.{_≤ℤ_}
-use Rattle.words.specs.declared.time.Iterations.{Iterations}
+use Rattle.times.specs.declared.Iterations.{Iterations}
 use Rattle.words.specs.Loops.{tab}
-use Rattle.words.specs.Times.{iterations-at}
+use Rattle.times.specs.Times.{iterations-at}
 use Rattle.records.specs.Records.{most-nodes, most-wires}
 use Rattle.sheets.specs.Sheet.{sheet-format, wire-at, most-delays}
 use Rattle.folding.specs.Walks.{Net, chain, foldable, latest, deepest, start}

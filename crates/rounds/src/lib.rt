@@ -7,13 +7,13 @@ ghost use lib.ListN.{length, getD};
 ghost use lib.IntN.{pos};
 ghost use mir.Syntax.{w32};
 ghost use mir.Val.{SFits};
-ghost use Rattle.words.specs.Times.{iterations-at};
+ghost use Rattle.times.specs.Times.{iterations-at};
 ghost use Rattle.records.specs.Records.{most-nodes};
 ghost use Rattle.sheets.specs.Sheet.{sheet-format};
 ghost use Rattle.folding.specs.Walks.{deepest};
 ghost use Rattle.rounds.specs.Rounds.{row-of, bytes-net, Wired, Moderate, Settling, shifted, Timed};
 use sheets::Sheet;
-use words::time::Iterations;
+use times::Iterations;
 
 // The limits of a sheet by which arrays are made, and where a wire's record has its two ends.
 pub struct Layout {}

@@ -12,9 +12,9 @@ use lib.Seq.{getD-set-same, getD-set-other}
 use lib.IntN.{ℤ, pos}
 use lib.Signed.{leZ}
 use borrow.Author.Tests.{eq-eqb, ne-eqb, le-leb, lt-leb}
-use Rattle.words.specs.declared.time.Cycles.{Cycles}
+use Rattle.times.specs.declared.Cycles.{Cycles}
 use Rattle.words.specs.Loops.{largest}
-use Rattle.words.specs.Times.{cycles-at}
+use Rattle.times.specs.Times.{cycles-at}
 
 -- l has at each k the largest of the first n that belong there
 abbrev pub SoFar : ℕ → (ℕ → ℕ) → (ℕ → ℕ) → ℕ → List Cycles → Type 0

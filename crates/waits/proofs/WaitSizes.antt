@@ -8,8 +8,8 @@ use lib.ListN.{length}
 use lib.IntN.{ℤ, pos, negsuc, _+ℤ_, _-ℤ_, _*ℤ_}
 use mir.Syntax.{w32}
 use mir.Val.{SFits}
-use Rattle.words.specs.declared.time.Iterations.{Iterations}
-use Rattle.words.specs.Times.{iterations-at}
+use Rattle.times.specs.declared.Iterations.{Iterations}
+use Rattle.times.specs.Times.{iterations-at}
 use Rattle.words.proofs.Ints.{up, down, timesℤ, le-up, up-le, from-pos}
 use Rattle.words.proofs.FitLaws.{fits, sum-size, dif-size}
 use Rattle.sheets.specs.declared.Sheet as Head

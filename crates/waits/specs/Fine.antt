@@ -7,10 +7,10 @@ use lib.Dec.{eqb}
 use lib.ListN.{length}
 use lib.IntN.{ℤ, pos}
 use lib.Signed.{_≤ℤ_}
-use Rattle.words.specs.declared.time.Cycles.{Cycles}
-use Rattle.words.specs.declared.time.Iterations.{Iterations}
+use Rattle.times.specs.declared.Cycles.{Cycles}
+use Rattle.times.specs.declared.Iterations.{Iterations}
 use Rattle.words.specs.Loops.{largest}
-use Rattle.words.specs.Times.{iterations-at, cycles-at}
+use Rattle.times.specs.Times.{iterations-at, cycles-at}
 use Rattle.sheets.specs.declared.Sheet as Head
 use Rattle.sheets.specs.Sheet.{Sheet, node-of, wire-of, sheet-of, sheet-fault}
 use Rattle.sheets.specs.Answers.{Whole}

@@ -2,13 +2,13 @@
 ghost use mathlib.Core.Path.{_≡_};
 ghost use Prim.Native.Nat.{ℕ, _<_};
 ghost use lib.IntN.{pos, _+ℤ_, _-ℤ_, _*ℤ_};
-ghost use Rattle.words.specs.Times.{iterations-at, cycles-at};
+ghost use Rattle.times.specs.Times.{iterations-at, cycles-at};
 ghost use Rattle.sheets.specs.Sheet.{sheet-of};
 ghost use Rattle.folding.specs.Folding.{raw, bound};
 ghost use Rattle.waits.specs.Fine.{Fine, Started, Waiting, Near};
 use sheets::Sheet;
-use words::time::Cycles;
-use words::time::Iterations;
+use times::Cycles;
+use times::Iterations;
 
 // The raw wait of wire e.
 fn raw_wait(b: &[u8], sheet: Sheet, e: usize) -> Cycles

@@ -1,19 +1,13 @@
 -- When a whole number fits a signed width, over the width: by its ups and downs, so that omega shows it. Assumes nothing.
 use mathlib.Core.Path.{_≡_, refl}
-use mathlib.Core.Bool.{Bool}
 use Prim.Native.Nat.{ℕ, zero, suc, _+_, _-_, _*_, _^_, _<_, _≤_}
 use native.Mathlib.Nat.{lt-of-le-of-lt, le-trans, mul-le-mul}
 use native.Mathlib.Omega.{arith}
-use lib.Dec.{T, eqb}
 use lib.IntN.{ℤ, pos, negsuc, negℤ, natAbs, _+ℤ_, _-ℤ_, _*ℤ_}
-use lib.Signed.{mag, nonNeg, leZ, _≤ℤ_, yes-nonNeg, natAbs-le}
-use borrow.Author.Tests.{eqb-true, eq-eqb, ne-eqb}
+use lib.Signed.{mag, natAbs-le}
 use mir.Syntax.{Width}
-use mir.Val.{Fits, SFits, toZ, ofZ, bits, hbits}
-use mir.ValLaws.{toZ-ofZ, pow-bits, half-full}
-use Rattle.words.specs.Times.{eqZ}
+use mir.Val.{SFits, hbits}
 use Rattle.words.proofs.Ints.{up, down, sumℤ, difℤ}
-use Rattle.words.proofs.LoopLaws.{bool-ext}
 
 pub fits : {w : Width} (z : ℤ) → up z < 2 ^ hbits w → down z ≤ 2 ^ hbits w → SFits w z
 unfolding up down
@@ -64,33 +58,3 @@ pub product-fits : {w : Width} (a b : ℤ) (m n : ℕ) → mag a < m → mag b <
 product-fits a b m n ha hb h =
     let l : natAbs a * natAbs b ≤ m * n = mul-le-mul (natAbs-le a ha) (natAbs-le b hb) in
     record { sfits = lt-of-le-of-lt (le-trans (mag-abs (a *ℤ b)) (rw (abs-times a b) l)) h }
-
--- ---- the machine's readings
-
--- a test of two signed numbers, as it is written and as the machine reads it
-pub le-read : {w : Width} (a b : ℤ) (t : Bool) → SFits w a → SFits w b →
-    leZ (toZ w (ofZ w a)) (toZ w (ofZ w b)) ≡ t → leZ a b ≡ t
-le-read {w} a b t f g e = rw (toZ-ofZ w a f, toZ-ofZ w b g) at e
-
--- a number that is not below 0, cast to unsigned
-pub cast-read : {w : Width} (z : ℤ) → pos 0 ≤ℤ z → SFits w z →
-    T (nonNeg (toZ w (ofZ w z))) × Fits w (natAbs (toZ w (ofZ w z)))
-cast-read {w} z h f = rw (toZ-ofZ w z f) (yes-nonNeg h, unsigned z h f)
-  where
-    unsigned : (z : ℤ) → pos 0 ≤ℤ z → SFits w z → Fits w (natAbs z)
-    unsigned (pos n) h f = record { fits = half-full w (f .sfits) }
-    unsigned (negsuc n) h f = absurd (h .le)
-
--- two numbers are equal where their bits are
-pub same-bits : {w : Width} (a b : ℤ) → SFits w a → SFits w b → eqb (ofZ w a) (ofZ w b) ≡ eqZ a b
-same-bits (pos m) (pos n) f g = refl
-same-bits {w} (pos m) (negsuc n) f g =
-    ne-eqb m (2 ^ bits w - suc n) (λ e. omega (arith, pow-bits w, f .sfits, g .sfits))
-same-bits {w} (negsuc m) (pos n) f g =
-    ne-eqb (2 ^ bits w - suc m) n (λ e. omega (arith, pow-bits w, f .sfits, g .sfits))
-same-bits {w} (negsuc m) (negsuc n) f g =
-    let x = 2 ^ bits w - suc m in
-    let y = 2 ^ bits w - suc n in
-    bool-ext (eqb x y) (eqb m n)
-    (λ t. eq-eqb m n (omega (arith, eqb-true x y t, pow-bits w, f .sfits, g .sfits)))
-    (λ t. eq-eqb x y (omega (arith, eqb-true m n t)))

@@ -5,7 +5,6 @@ ghost use Prim.Native.Nat.{_<_};
 ghost use Rattle.words.specs.Words.{turn, half-turn, floor, residue, signed, sum, difference, scale};
 
 pub mod masks;
-pub mod time;
 
 // Input 0 + input 1.
 pub fn sum(a: u32, b: u32) -> u32

@@ -1,2 +1,3 @@
 -- Laws.
 pub mod LaidLaws
+pub mod RecordLaws

@@ -13,8 +13,8 @@ use plans::Joint;
 use plans::Plan;
 use records::Node;
 use records::Unit;
-use words::time::Cycles;
-use words::time::Iterations;
+use times::Cycles;
+use times::Iterations;
 
 // The low and the high byte of a two-byte field.
 fn low(field: u16) -> u8

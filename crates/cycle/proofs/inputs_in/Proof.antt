@@ -8,11 +8,11 @@ use lib.Dec.{eqb}
 use lib.ListN.{length, set, length-set, getD-replicate}
 use borrow.Author.Tests.{eq-eqb, ne-eqb}
 use Rattle.plans.specs.Heads.{joint-at}
-use Rattle.cycle.proofs.PartLaws.{gathered-in, gathered-past, source-begins, joint-so}
+use Rattle.cycle.proofs.InputLaws.{gathered-in, gathered-past, source-begins, joint-so}
 use Rattle.plans.specs.Plan.{plan-read}
-use Rattle.cycle.specs.Taken.{last-of, Gathered, in-slot, input-place, tapped}
+use Rattle.cycle.specs.Inputs.{last-of, Gathered, in-slot, input-place, tapped}
 use Rattle.plans.proofs.WholeLaws.{switch-inside}
-use Rattle.cycle.proofs.TakenLaws.{whole-taken, few-units, few-wires}
+use Rattle.memory.proofs.TakenLaws.{whole-taken, few-units, few-wires}
 use borrow.Author.Needs.{needs}
 use Rattle.cycle.proofs.inputs_in.Statement.{statement}
 use Rattle.cycle.proofs.inputs_in.Tie as tie

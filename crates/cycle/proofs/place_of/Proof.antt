@@ -4,9 +4,9 @@ use mathlib.Core.Path.{_≡_}
 use native.Mathlib.Omega.{arith}
 use Rattle.words.proofs.Ints.{from-pos}
 use Rattle.plans.specs.Plan.{plan-read}
-use Rattle.cycle.specs.Cycle.{size}
-use Rattle.cycle.specs.Taken.{tapped-place}
-use Rattle.cycle.proofs.PartLaws.{place-read}
+use Rattle.memory.specs.Memory.{size}
+use Rattle.cycle.specs.Inputs.{tapped-place}
+use Rattle.cycle.proofs.InputLaws.{place-read}
 use borrow.Author.Needs.{needs}
 use Rattle.cycle.proofs.place_of.Statement.{statement}
 use Rattle.cycle.proofs.place_of.Tie as tie

@@ -3,8 +3,8 @@ use native.Mathlib.Omega.{arith}
 use Prim.Native.Nat.{ℕ, _+_, _<_}
 use mathlib.Core.Path.{sym, subst}
 use Rattle.plans.proofs.WholeLaws.{switch-inside}
-use Rattle.cycle.proofs.TakenLaws.{whole-taken}
-use Rattle.cycle.proofs.PartLaws.{source-so}
+use Rattle.memory.proofs.TakenLaws.{whole-taken}
+use Rattle.cycle.proofs.InputLaws.{source-so}
 use borrow.Author.Needs.{needs}
 use Rattle.cycle.proofs.source_of.Statement.{statement}
 use Rattle.cycle.proofs.source_of.Tie as tie

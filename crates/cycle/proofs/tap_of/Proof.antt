@@ -4,7 +4,7 @@ use mathlib.Core.Path.{sym, ap, _∙_}
 use lib.IntN.{pos}
 use Rattle.plans.specs.Plan.{Switch}
 use Rattle.plans.proofs.WholeLaws.{switch-inside, switch-so}
-use Rattle.cycle.proofs.TakenLaws.{whole-taken}
+use Rattle.memory.proofs.TakenLaws.{whole-taken}
 use borrow.Author.Needs.{needs}
 use Rattle.cycle.proofs.tap_of.Statement.{statement}
 use Rattle.cycle.proofs.tap_of.Tie as tie

@@ -7,7 +7,7 @@ use native.Mathlib.Omega.{arith}
 use native.Mathlib.Numerals.{add-one}
 use borrow.Author.Needs.{needs}
 use lib.ListN.{length, length-set}
-use Rattle.words.specs.Times.{iterations-at}
+use Rattle.times.specs.Times.{iterations-at}
 use Rattle.records.specs.Records.{most-nodes}
 use Rattle.folding.specs.Walks.{better, round, settled, foldable}
 use Rattle.folding.proofs.RoundLaws.{round-zero}

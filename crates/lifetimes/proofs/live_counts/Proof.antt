@@ -9,7 +9,7 @@ use lib.Dec.{ltb}
 use lib.ListN.{length, length-set, getD-replicate}
 use lib.IntN.{pos}
 use Rattle.words.specs.Loops.{total}
-use Rattle.words.specs.Times.{cycles-at}
+use Rattle.times.specs.Times.{cycles-at}
 use Rattle.words.proofs.Ints.{from-pos}
 use Rattle.words.proofs.LoopLaws.{passed?}
 use Rattle.words.proofs.FaultLaws.{or-split}

@@ -1,6 +1,6 @@
 -- `machine::clear_judged` meets its contract: 7 where there is no room, else cleared. Assumes nothing.
 use native.Mathlib.Omega.{arith}
-use Rattle.cycle.specs.Cycle.{size}
+use Rattle.memory.specs.Memory.{size}
 use Rattle.machine.proofs.CallLaws.{clear-short, clear-done}
 use borrow.Author.Needs.{needs}
 use Rattle.machine.proofs.clear_judged.Statement.{statement}

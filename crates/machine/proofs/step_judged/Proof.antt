@@ -7,9 +7,9 @@ use Rattle.records.specs.Units.{channels}
 use Rattle.records.specs.Records.{at}
 use Rattle.plans.specs.Plan.{plan-read}
 use Rattle.plans.proofs.WholeLaws.{units-so}
-use Rattle.cycle.specs.Cycle.{size}
-use Rattle.cycle.specs.Taken.{Ready}
-use Rattle.cycle.proofs.TakenLaws.{whole-taken, few-units}
+use Rattle.memory.specs.Memory.{size}
+use Rattle.memory.specs.Taken.{Ready}
+use Rattle.memory.proofs.TakenLaws.{whole-taken, few-units}
 use Rattle.machine.specs.Stepping.{last-count}
 use Rattle.machine.proofs.CallLaws.{short-memory, short-channels, short-output, too-late, step-done}
 use borrow.Author.Needs.{needs}

@@ -5,8 +5,8 @@ use Rattle.records.proofs.AnswerLaws.{reason-positive}
 use Rattle.planner.proofs.AnswerLaws.{got-fine, why-fault, planning-refused}
 use Rattle.planner.proofs.plan.Statement.{statement}
 use Rattle.planner.proofs.plan.Tie as tie
-use Rattle.words.proofs.time.Cycles.zero.Reads as time-Cycles-zero-reads
-use Rattle.words.proofs.time.Iterations.zero.Reads as time-Iterations-zero-reads
+use Rattle.times.proofs.Cycles.zero.Reads as time-Cycles-zero-reads
+use Rattle.times.proofs.Iterations.zero.Reads as time-Iterations-zero-reads
 
 zero-requires : tie.Need-zero-requires
 zero-requires c κs = search needs

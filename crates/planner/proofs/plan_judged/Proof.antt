@@ -3,8 +3,8 @@ use mathlib.Core.Path.{_≡_, sym, _∙_}
 use native.Mathlib.Omega.{arith}
 use borrow.Author.Needs.{needs}
 use borrow.Author.Tests.{not-true, not-false}
-use Rattle.planner.specs.Planning.{plan-length}
-use Rattle.planner.proofs.WholePlan.{room-so}
+use Rattle.drawing.specs.PlanOf.{plan-length}
+use Rattle.drawing.proofs.WholePlan.{room-so}
 use Rattle.planner.proofs.AnswerLaws.{planning-short, planning-loop, planning-done}
 use Rattle.planner.proofs.plan_judged.Statement.{statement}
 use Rattle.planner.proofs.plan_judged.Tie as tie

@@ -8,7 +8,7 @@ use Rattle.words.specs.Loops.{tab}
 use Rattle.plans.specs.Plan.{concat, loop-wire-bytes}
 use Rattle.writing.specs.Laid.{laid}
 use Rattle.writing.proofs.LaidLaws.{length-laid}
-use Rattle.planner.proofs.LayingLaws.{laid-none, laid-more, loop-laid}
+use Rattle.writing.proofs.RecordLaws.{laid-none, laid-more, loop-laid}
 use Rattle.planner.proofs.write_loop.Statement.{statement}
 use Rattle.planner.proofs.write_loop.Tie as tie
 

@@ -10,7 +10,7 @@ use borrow.Author.Needs.{needs}
 use borrow.Author.Tests.{not-true, not-false, lt-ltb, le-ltb}
 use borrow.Author.Count.{below-more}
 use lib.ListN.{length, length-set}
-use Rattle.words.specs.Times.{iterations-at}
+use Rattle.times.specs.Times.{iterations-at}
 use Rattle.records.specs.Records.{most-nodes}
 use Rattle.folding.specs.Walks.{better, round, settled}
 use Rattle.folding.proofs.RoundLaws.{round-zero}

@@ -1,7 +1,7 @@
 -- `waits::bounds` meets its contract: the bound of each wire goes to its place. Assumes nothing.
 use Rattle.waits.proofs.FineLaws.{fold-some, few-wires, fold-so}
 use Rattle.waits.proofs.LongestLaws.{filled-more}
-use Rattle.words.specs.declared.time.Iterations.{Iterations}
+use Rattle.times.specs.declared.Iterations.{Iterations}
 use lib.ListN.{length-set}
 use Prim.Native.Nat.{ℕ, _-_, _<_, _≤_}
 use mathlib.Core.Path.{_≡_, refl, _∙_}
@@ -10,7 +10,7 @@ use lib.ListN.{length}
 use lib.IntN.{pos}
 use Rattle.sheets.specs.Sheet.{sheet-of}
 use Rattle.folding.specs.Folding.{bound}
-use Rattle.words.specs.Times.{iterations-at}
+use Rattle.times.specs.Times.{iterations-at}
 use borrow.Author.Needs.{needs}
 use Rattle.waits.proofs.bounds.Statement.{statement}
 use Rattle.waits.proofs.bounds.Tie as tie

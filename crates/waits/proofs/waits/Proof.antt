@@ -8,9 +8,9 @@ use lib.Dec.{eqb}
 use lib.ListN.{length, getD, length-set}
 use lib.IntN.{pos}
 use borrow.Author.Needs.{needs}
-use Rattle.words.specs.declared.time.Cycles.{Cycles}
+use Rattle.times.specs.declared.Cycles.{Cycles}
 use Rattle.words.specs.Loops.{largest}
-use Rattle.words.specs.Times.{cycles-at}
+use Rattle.times.specs.Times.{cycles-at}
 use Rattle.sheets.specs.Sheet.{sheet-of, wire-of}
 use Rattle.folding.specs.Walks.{start}
 use Rattle.folding.specs.Folding.{net, tap}

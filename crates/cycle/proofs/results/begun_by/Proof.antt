@@ -6,7 +6,7 @@ use mir.Val.{SFits}
 use mir.ValLaws.{toZ-ofZ}
 use Rattle.words.proofs.Ints.{from-pos}
 use Rattle.plans.proofs.WholeLaws.{node-inside}
-use Rattle.cycle.proofs.TakenLaws.{whole-taken}
+use Rattle.memory.proofs.TakenLaws.{whole-taken}
 use Rattle.cycle.proofs.GivenLaws.{turns, below-start}
 use borrow.Author.Needs.{needs}
 use Rattle.cycle.proofs.results.begun_by.Statement.{statement}

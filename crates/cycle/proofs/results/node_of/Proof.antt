@@ -3,7 +3,7 @@ use mathlib.Core.Path.{sym, ap, _∙_}
 use native.Mathlib.Omega.{arith}
 use Rattle.plans.specs.Plan.{PlanNode}
 use Rattle.plans.proofs.WholeLaws.{node-inside, node-so}
-use Rattle.cycle.proofs.TakenLaws.{whole-taken}
+use Rattle.memory.proofs.TakenLaws.{whole-taken}
 use borrow.Author.Needs.{needs}
 use Rattle.cycle.proofs.results.node_of.Statement.{statement}
 use Rattle.cycle.proofs.results.node_of.Tie as tie

@@ -4,10 +4,10 @@ use mathlib.Core.Path.{ap, _∙_, subst}
 use native.Mathlib.Omega.{arith}
 use Rattle.records.specs.Records.{at}
 use Rattle.plans.specs.Plan.{plan-read}
-use Rattle.cycle.specs.Cycle.{size}
-use Rattle.cycle.specs.Taken.{Gathered, in-slot, input-place, tapped}
+use Rattle.memory.specs.Memory.{size}
+use Rattle.cycle.specs.Inputs.{Gathered, in-slot, input-place, tapped}
 use Rattle.plans.proofs.WholeLaws.{folds-so}
-use Rattle.cycle.proofs.TakenLaws.{whole-taken}
+use Rattle.memory.proofs.TakenLaws.{whole-taken}
 use Rattle.cycle.proofs.GivenLaws.{turns}
 use Rattle.cycle.proofs.ResultLaws.{results-so}
 use borrow.Author.Needs.{needs}

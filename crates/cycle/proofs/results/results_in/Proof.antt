@@ -10,9 +10,9 @@ use borrow.Author.Needs.{needs}
 use Rattle.records.specs.declared.Node.{Node}
 use Rattle.records.specs.Units.{k-fits}
 use Rattle.plans.specs.Plan.{node-in, plan-read}
-use Rattle.cycle.specs.Taken.{last-of, Gathered}
+use Rattle.cycle.specs.Inputs.{last-of, Gathered}
 use Rattle.cycle.specs.Given.{node-in-slot, node-unit, given}
-use Rattle.cycle.proofs.PartLaws.{gathered-in, gathered-past}
+use Rattle.cycle.proofs.InputLaws.{gathered-in, gathered-past}
 use Rattle.cycle.proofs.GivenLaws.{turns, k-taken, unit-few, slot-so, given-is}
 use Rattle.cycle.proofs.results.results_in.Statement.{statement}
 use Rattle.cycle.proofs.results.results_in.Tie as tie

@@ -10,8 +10,8 @@ use Rattle.lifetimes.proofs.LiveSums.{slot-so, slot-fits}
 use Rattle.planner.proofs.FigureLaws.{beyond-none, unfolded-none, live-is}
 use Rattle.planner.proofs.figures.live_judged.Statement.{statement}
 use Rattle.planner.proofs.figures.live_judged.Tie as tie
-use Rattle.words.proofs.time.Cycles.zero.Reads as time-Cycles-zero-reads
-use Rattle.words.proofs.time.Iterations.zero.Reads as time-Iterations-zero-reads
+use Rattle.times.proofs.Cycles.zero.Reads as time-Cycles-zero-reads
+use Rattle.times.proofs.Iterations.zero.Reads as time-Iterations-zero-reads
 
 returns : tie.Need-returns
 returns c = let s = c .before .before .before in beyond-none (s .args .b .now) (s .args .slot) (omega (arith, c .if1 .taken, fold-so (s .args .b .now) (s .args .sheet) (s .pre)))

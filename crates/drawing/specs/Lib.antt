@@ -1,0 +1,4 @@
+-- What a reader must believe of plans that are drawn: the plan of a sheet, and what it is for a plan to fold a sheet.
+pub mod PlanOf
+pub mod Folds
+pub mod Laying

@@ -1,0 +1,4 @@
+-- Laws.
+pub mod BlockLaws
+pub mod TakenLaws
+pub mod LineLaws

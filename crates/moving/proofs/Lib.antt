@@ -1,0 +1,3 @@
+-- Laws.
+pub mod ShiftLaws
+pub mod MovingLaws

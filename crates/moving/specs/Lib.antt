@@ -1,0 +1,2 @@
+-- What a reader must believe of what clearing and a step write.
+pub mod Moving
