@@ -3,7 +3,10 @@ use mathlib.Core.Path.{_≡_}
 use mathlib.Core.Bool.{true}
 use mathlib.Core.List.{List}
 use Prim.Native.Nat.{ℕ}
+use lib.Count.{ones}
+use lib.ListN.{length, getD}
 use Rattle.words.specs.Loops.{tab}
+use Rattle.records.specs.Records.{occupied}
 use Rattle.sheets.specs.Sheet.{Sheet, node-of, wire-of, sheet-of}
 use Rattle.folding.specs.Walks.{start, foldable, chain}
 use Rattle.folding.specs.Folding.{net}
@@ -18,6 +21,10 @@ pub record TimedSheet (b : List ℕ) (r : Retimed) : Type 0 where
   pub settled : r .settled ≡ foldable (net (sheet-of b))
   pub rounds : r .settled ≡ true → r .rounds ≡ chain (net (sheet-of b))
   pub started : r .settled ≡ true → Started b (r .starts)
+
+-- the ones of each unit's mask are as many as its occupied slots
+abbrev pub Counted : List ℕ → List ℕ → Type 0
+Counted b masks = (q : ℕ) → ones (getD masks q 0) ≡ occupied (sheet-of b .fold) (length (sheet-of b .nodes)) (node-of (sheet-of b)) q
 
 -- what wire e's switch joins
 abbrev pub joint-of : Sheet → ℕ → Joint

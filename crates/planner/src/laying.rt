@@ -3,16 +3,14 @@ ghost use mathlib.Core.Path.{_≡_};
 ghost use Prim.Native.Nat.{_+_, _-_, _*_, _<_, _≤_};
 ghost use lib.Count.{ones};
 ghost use lib.ListN.{length};
-ghost use Rattle.sheets.specs.Sheet.{sheet-of, node-of};
-ghost use Rattle.slots.specs.Slots.{SlotsOf};
+ghost use Rattle.sheets.specs.Sheet.{sheet-of};
 ghost use Rattle.waits.specs.Fine.{Fine, Started, Tapped, Longest, from-unit};
 ghost use Rattle.writing.specs.Laid.{laid};
-ghost use Rattle.planner.specs.Laying.{joint-of, unit-records, node-records, switch-records};
+ghost use Rattle.planner.specs.Laying.{Counted, joint-of, unit-records, node-records, switch-records};
 use plans::Joint;
 use plans::Plan;
 use sheets::Sheet;
-use slots::Slots;
-use words::time::Cycles;
+use waits::Waited;
 use words::time::Iterations;
 use writing::write_node;
 use writing::write_switch;
@@ -47,14 +45,14 @@ fn idle_of(fold: u8, mask: u32) -> u8
 pub fn write_units(
     b: &[u8],
     sheet: Sheet,
-    lines: [Cycles; Sheet::MOST_UNITS],
-    slots: Slots,
+    waited: Waited,
+    occupied: [u32; Sheet::MOST_UNITS],
     at: usize,
     out: &mut [u8],
 )
     requires { ⌜ Fine (now b) sheet ⌝ }
-    requires { ⌜ Longest (now b) (from-unit (now b)) 8 lines ⌝ }
-    requires { ⌜ SlotsOf (sheet .nodes) (node-of (sheet-of (now b))) slots ⌝ }
+    requires { ⌜ Longest (now b) (from-unit (now b)) 8 (waited .lines) ⌝ }
+    requires { ⌜ Counted (now b) occupied ⌝ }
     requires { ⌜ at + 7 * sheet .units ≤ length (now out) ⌝ }
     ensures { λ r. ⌜ now (out .exit) ≡ laid (now (out .entry)) at (unit-records (now (b .entry)) (sheet .units)) ⌝ }
 {
@@ -62,8 +60,8 @@ pub fn write_units(
     let mut q = 0;
     while q < units {
         let unit = sheets::unit_of(b, sheet, q);
-        let idle = idle_of(sheet.fold, slots.occupied[q]);
-        write_unit(out, at + Plan::UNIT * q, unit, lines[q], idle);
+        let idle = idle_of(sheet.fold, occupied[q]);
+        write_unit(out, at + Plan::UNIT * q, unit, waited.lines[q], idle);
         q += 1;
     }
 }
@@ -91,15 +89,9 @@ pub fn write_nodes(
 }
 
 // A switch for each wire, with its wait for a tap.
-pub fn write_switches(
-    b: &[u8],
-    sheet: Sheet,
-    waits: [Cycles; Sheet::MOST_WIRES],
-    at: usize,
-    out: &mut [u8],
-)
+pub fn write_switches(b: &[u8], sheet: Sheet, waited: Waited, at: usize, out: &mut [u8])
     requires { ⌜ Fine (now b) sheet ⌝ }
-    requires { ⌜ Tapped (now b) waits ⌝ }
+    requires { ⌜ Tapped (now b) (waited .waits) ⌝ }
     requires { ⌜ at + 8 * sheet .wires ≤ length (now out) ⌝ }
     ensures { λ r. ⌜ now (out .exit) ≡ laid (now (out .entry)) at (switch-records (now (b .entry)) (sheet .wires)) ⌝ }
 {
@@ -107,7 +99,7 @@ pub fn write_switches(
     let mut e = 0;
     while e < wires {
         let joint = joint_of(b, sheet, e);
-        write_switch(out, at + Plan::SWITCH * e, joint, waits[e]);
+        write_switch(out, at + Plan::SWITCH * e, joint, waited.waits[e]);
         e += 1;
     }
 }
