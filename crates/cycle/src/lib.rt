@@ -98,8 +98,8 @@ fn tapped(plan: &[u8], p: Plan, from: usize, memory: &[u32], e: usize) -> u32
 }
 
 // The words at the inputs of all units in a slot: input i of unit q at 2q + i.
-pub fn inputs_in(plan: &[u8], p: Plan, lines: Lines, memory: &[u32], slot: u8) -> [u32; 16]
-    requires { ⌜ Ready (now plan) p lines (now memory) ⌝ }
+pub fn inputs_in(plan: &[u8], p: Plan, lines: &[usize], memory: &[u32], slot: u8) -> [u32; 16]
+    requires { ⌜ Ready (now plan) p (now lines) (now memory) ⌝ }
     ensures { λ r. ⌜ Gathered (p .wires) (in-slot (plan-read (now (plan .entry))) slot) (input-place (plan-read (now (plan .entry)))) (tapped (plan-read (now (plan .entry))) (now (memory .entry))) 16 r ⌝ }
 {
     let wires = p.wires as usize;
@@ -110,7 +110,7 @@ pub fn inputs_in(plan: &[u8], p: Plan, lines: Lines, memory: &[u32], slot: u8) -
         if joint.slot == slot {
             let k = 2 * (joint.unit as usize) + joint.input as usize;
             let source = source_of(plan, p, e);
-            let from = lines.at[source];
+            let from = lines[source];
             words[k] = tapped(plan, p, from, memory, e);
         }
         e += 1;
