@@ -18,9 +18,8 @@ use Rattle.plans.specs.declared.Joint.{Joint}
 use Rattle.plans.specs.Heads.{joint-at}
 use Rattle.plans.specs.Plan.{Switch, unit-in, node-in, switch-in, plan-read}
 use Rattle.plans.proofs.JudgingLaws.{longest-tap-ge}
-use Rattle.memory.specs.declared.Lines.{Lines}
 use Rattle.memory.specs.Memory.{base, size}
-use Rattle.memory.specs.Taken.{Taken, LinesOf}
+use Rattle.memory.specs.Taken.{Taken, LinesAt}
 use Rattle.cycle.specs.Inputs.{Begins, last-of, Gathered, input-place, tapped-place}
 use Rattle.plans.proofs.WholeLaws.{units-so, wires-so, switch-so}
 use Rattle.memory.proofs.LineLaws.{depth-so}
@@ -74,9 +73,9 @@ module _ (b : List ℕ) (p : Head.Plan) (t : Taken b p) where
       (is, omega (arith, is, place-inside e h))
 
   -- where the lines say that the source's places begin
-  pub source-begins : (lines : Lines) → LinesOf (plan-read b) lines → (e source : ℕ) → e < p .wires → source ≡ switch-in (plan-read b) e .source → Begins (plan-read b) e (getD (lines .at) source 0)
+  pub source-begins : (lines : List ℕ) → LinesAt (plan-read b) lines → (e source : ℕ) → e < p .wires → source ≡ switch-in (plan-read b) e .source → Begins (plan-read b) e (getD lines source 0)
   source-begins lines so e source h is =
-      ap (λ (q : ℕ). getD (lines .at) q 0) is ∙ so .at (switch-in (plan-read b) e .source) (omega (arith, source-so e h .1, units-so b p (whole-taken t)))
+      ap (λ (q : ℕ). getD lines q 0) is ∙ so (switch-in (plan-read b) e .source) (omega (arith, source-so e h .1, units-so b p (whole-taken t)))
 
   -- what a switch's joint says, and that its input is one of sixteen
   pub joint-so : (e : ℕ) → e < p .wires → (j : Joint) → j ≡ joint-at b (9 + 7 * p .units + 9 * p .nodes + 8 * e) →

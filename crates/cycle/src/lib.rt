@@ -3,7 +3,6 @@ ghost use mathlib.Core.Path.{_≡_};
 ghost use Prim.Native.Nat.{_+_, _^_, _<_, _≤_};
 ghost use lib.ListN.{length};
 ghost use lib.IntN.{pos};
-ghost use Rattle.records.specs.Records.{at};
 ghost use Rattle.plans.specs.Plan.{switch-in, plan-read};
 ghost use Rattle.memory.specs.Taken.{Taken, Ready};
 ghost use Rattle.cycle.specs.Inputs.{Begins, Gathered, in-slot, input-place, tapped-place, tapped};
@@ -11,7 +10,6 @@ ghost use Rattle.memory.specs.Memory.{size};
 
 pub mod results;
 
-use memory::Lines;
 use memory::depth_of;
 use plans::Plan;
 use times::Cycles;
@@ -59,8 +57,8 @@ fn tapped(plan: &[u8], p: Plan, from: usize, memory: &[u32], e: usize) -> u32
 }
 
 // The words at the inputs of all units in a slot: input i of unit q at 2q + i.
-pub fn inputs_in(plan: &[u8], p: Plan, lines: Lines, memory: &[u32], slot: u8) -> [u32; 16]
-    requires { ⌜ Ready (now plan) p lines (now memory) ⌝ }
+pub fn inputs_in(plan: &[u8], p: Plan, lines: &[usize], memory: &[u32], slot: u8) -> [u32; 16]
+    requires { ⌜ Ready (now plan) p (now lines) (now memory) ⌝ }
     ensures { λ r. ⌜ Gathered (p .wires) (in-slot (plan-read (now (plan .entry))) slot) (input-place (plan-read (now (plan .entry)))) (tapped (plan-read (now (plan .entry))) (now (memory .entry))) 16 r ⌝ }
 {
     let wires = p.wires as usize;
@@ -71,7 +69,7 @@ pub fn inputs_in(plan: &[u8], p: Plan, lines: Lines, memory: &[u32], slot: u8) -
         if joint.slot == slot {
             let k = 2 * (joint.unit as usize) + joint.input as usize;
             let source = source_of(plan, p, e);
-            let from = lines.at[source];
+            let from = lines[source];
             words[k] = tapped(plan, p, from, memory, e);
         }
         e += 1;

@@ -11,7 +11,6 @@ ghost use Rattle.memory.specs.Taken.{Taken, Ready};
 ghost use Rattle.cycle.specs.Inputs.{Gathered};
 ghost use Rattle.cycle.specs.Given.{node-in-slot, node-unit, begun-by, given, ResultsOf};
 use crate::inputs_in;
-use memory::Lines;
 use memory::WORD_BEFORE;
 use plans::Plan;
 use records::Node;
@@ -74,8 +73,8 @@ fn results_in(plan: &[u8], p: Plan, words: [u32; 16], samples: &[u32], t: u32) -
 }
 
 // The result that each unit begins, from the memory as it stands.
-pub fn results(plan: &[u8], p: Plan, lines: Lines, memory: &[u32], samples: &[u32]) -> [u32; 8]
-    requires { ⌜ Ready (now plan) p lines (now memory) ⌝ }
+pub fn results(plan: &[u8], p: Plan, lines: &[usize], memory: &[u32], samples: &[u32]) -> [u32; 8]
+    requires { ⌜ Ready (now plan) p (now lines) (now memory) ⌝ }
     requires { ⌜ channels ≤ length (now samples) ⌝ }
     ensures { λ r. ⌜ ResultsOf (plan-read (now (plan .entry))) (now (memory .entry)) (now (samples .entry)) r ⌝ }
 {

@@ -9,7 +9,7 @@ use lib.IntN.{natAbs}
 use Rattle.times.specs.declared.Cycles.{Cycles}
 use Rattle.times.specs.Times.{cycles-at}
 use Rattle.records.specs.declared.Unit.{Unit}
-use Rattle.records.specs.Records.{occupied}
+use Rattle.records.specs.Records.{most-units, occupied}
 use Rattle.slots.specs.declared.Slots.{Slots}
 use Rattle.slots.specs.Slots.{SlotsOf}
 use Rattle.slots.proofs.SlotLaws.{occupied-ones, occupied-most}
@@ -21,28 +21,26 @@ use Rattle.plans.specs.Judging.{longest-tap}
 use Rattle.waits.specs.Fine.{Fine, Longest, from-unit}
 use Rattle.waits.proofs.FineLaws.{sound-so, fold-so, nodes-so, fold-some}
 use Rattle.drawing.specs.PlanOf.{plan-unit}
-use Rattle.drawing.specs.Laying.{starts-in}
+use Rattle.drawing.specs.Laying.{Counted, starts-in}
 
 -- a sheet without fault holds what the masks ask
 pub held-so : (b : List ℕ) (s : Head.Sheet) → Fine b s → Held b s
 held-so b s f = rw (f .whole .said) (held-of b (f .fine))
 
-module _ (b : List ℕ) (s : Head.Sheet) (f : Fine b s) (slots : Slots) (taken : SlotsOf (s .nodes) (node-of (sheet-of b)) slots) (q : ℕ) where
-  abbrev mask : ℕ
-  mask = getD (slots .occupied) q 0
-
-  mask-ones : ones mask ≡ occupied (sheet-of b .fold) (length (sheet-of b .nodes)) (node-of (sheet-of b)) q
-  mask-ones =
+module _ (b : List ℕ) (s : Head.Sheet) (f : Fine b s) where
+  pub slots-counted : (slots : Slots) → SlotsOf (s .nodes) (node-of (sheet-of b)) slots → Counted b (slots .occupied)
+  slots-counted slots taken q =
       occupied-ones (sheet-of b .fold) (s .nodes) (node-of (sheet-of b)) slots q taken (omega (arith, fold-so b s f, fold-some b s f .1))
       (λ x h. sound-so b s f .in-turn x (omega (arith, nodes-so b s f)))
       ∙ ap (λ (n : ℕ). occupied (sheet-of b .fold) n (node-of (sheet-of b)) q) (nodes-so b s f)
 
-  -- a mask has at most N ones
-  pub mask-most : ones mask ≤ s .fold
-  mask-most = omega (arith, mask-ones, fold-so b s f, occupied-most (sheet-of b .fold) (length (sheet-of b .nodes)) (node-of (sheet-of b)) q)
+  module _ (masks : List ℕ) (counted : Counted b masks) (q : ℕ) where
+    -- a mask has at most N ones
+    pub mask-most : ones (getD masks q 0) ≤ s .fold
+    mask-most = omega (arith, counted q, fold-so b s f, occupied-most (sheet-of b .fold) (length (sheet-of b .nodes)) (node-of (sheet-of b)) q)
 
-  -- the unit with its longest tap and the slots that its mask leaves free is the plan's
-  pub unit-figures : (lines : List Cycles) → Longest b (from-unit b) 8 lines → q < 8 → (u : Unit) → u ≡ unit-of (sheet-of b) q → (idle : ℕ) → idle ≡ s .fold - ones mask →
-      record { unit = u; line = natAbs (cycles-at lines q); idle = idle } ≡ plan-unit (sheet-of b) (starts-in b) q
-  unfolding longest-tap
-  unit-figures lines longest few u is idle free = rw (is, longest q few, free, mask-ones, fold-so b s f) refl
+    -- the unit with its longest tap and the slots that its mask leaves free is the plan's
+    pub unit-figures : (lines : List Cycles) → Longest b (from-unit b) most-units lines → q < most-units → (u : Unit) → u ≡ unit-of (sheet-of b) q → (idle : ℕ) → idle ≡ s .fold - ones (getD masks q 0) →
+        record { unit = u; line = natAbs (cycles-at lines q); idle = idle } ≡ plan-unit (sheet-of b) (starts-in b) q
+    unfolding longest-tap
+    unit-figures lines longest few u is idle free = rw (is, longest q few, free, counted q, fold-so b s f) refl

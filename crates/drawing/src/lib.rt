@@ -3,24 +3,23 @@ ghost use mathlib.Core.Path.{_≡_};
 ghost use Prim.Native.Nat.{_+_, _-_, _*_, _<_, _≤_};
 ghost use lib.Count.{ones};
 ghost use lib.ListN.{length};
-ghost use Rattle.records.specs.Records.{over};
-ghost use Rattle.sheets.specs.Sheet.{sheet-of, node-of};
+ghost use Rattle.records.specs.Records.{most-units, over};
+ghost use Rattle.sheets.specs.Sheet.{sheet-of};
 ghost use Rattle.folding.specs.Walks.{chain};
 ghost use Rattle.folding.specs.Folding.{net};
 ghost use Rattle.plans.specs.Plan.{plan-bytes};
-ghost use Rattle.slots.specs.Slots.{SlotsOf};
 ghost use Rattle.waits.specs.Fine.{Fine, Started, Tapped, Longest, from-unit};
 ghost use Rattle.writing.specs.Laid.{laid};
 ghost use Rattle.drawing.specs.PlanOf.{plan-length, plan-of};
-ghost use Rattle.drawing.specs.Laying.{joint-of, unit-records, node-records, switch-records};
+ghost use Rattle.drawing.specs.Laying.{Counted, joint-of, unit-records, node-records, switch-records};
 use lifetimes::registers;
 use plans::Joint;
 use plans::Plan;
 use sheets::Sheet;
 use sheets::judging::slots_of;
-use slots::Slots;
 use times::Cycles;
 use times::Iterations;
+use waits::Waited;
 use writing::write_header;
 use writing::write_node;
 use writing::write_switch;
@@ -55,14 +54,14 @@ fn idle_of(fold: u8, mask: u32) -> u8
 fn write_units(
     b: &[u8],
     sheet: Sheet,
-    lines: [Cycles; Sheet::MOST_UNITS],
-    slots: Slots,
+    waited: Waited,
+    occupied: [u32; Sheet::MOST_UNITS],
     at: usize,
     out: &mut [u8],
 )
     requires { ⌜ Fine (now b) sheet ⌝ }
-    requires { ⌜ Longest (now b) (from-unit (now b)) 8 lines ⌝ }
-    requires { ⌜ SlotsOf (sheet .nodes) (node-of (sheet-of (now b))) slots ⌝ }
+    requires { ⌜ Longest (now b) (from-unit (now b)) most-units (waited .lines) ⌝ }
+    requires { ⌜ Counted (now b) occupied ⌝ }
     requires { ⌜ at + 7 * sheet .units ≤ length (now out) ⌝ }
     ensures { λ r. ⌜ now (out .exit) ≡ laid (now (out .entry)) at (unit-records (now (b .entry)) (sheet .units)) ⌝ }
 {
@@ -70,8 +69,8 @@ fn write_units(
     let mut q = 0;
     while q < units {
         let unit = sheets::unit_of(b, sheet, q);
-        let idle = idle_of(sheet.fold, slots.occupied[q]);
-        write_unit(out, at + Plan::UNIT * q, unit, lines[q], idle);
+        let idle = idle_of(sheet.fold, occupied[q]);
+        write_unit(out, at + Plan::UNIT * q, unit, waited.lines[q], idle);
         q += 1;
     }
 }
@@ -99,15 +98,9 @@ fn write_nodes(
 }
 
 // A switch for each wire, with its wait for a tap.
-fn write_switches(
-    b: &[u8],
-    sheet: Sheet,
-    waits: [Cycles; Sheet::MOST_WIRES],
-    at: usize,
-    out: &mut [u8],
-)
+fn write_switches(b: &[u8], sheet: Sheet, waited: Waited, at: usize, out: &mut [u8])
     requires { ⌜ Fine (now b) sheet ⌝ }
-    requires { ⌜ Tapped (now b) waits ⌝ }
+    requires { ⌜ Tapped (now b) (waited .waits) ⌝ }
     requires { ⌜ at + 8 * sheet .wires ≤ length (now out) ⌝ }
     ensures { λ r. ⌜ now (out .exit) ≡ laid (now (out .entry)) at (switch-records (now (b .entry)) (sheet .wires)) ⌝ }
 {
@@ -115,7 +108,7 @@ fn write_switches(
     let mut e = 0;
     while e < wires {
         let joint = joint_of(b, sheet, e);
-        write_switch(out, at + Plan::SWITCH * e, joint, waits[e]);
+        write_switch(out, at + Plan::SWITCH * e, joint, waited.waits[e]);
         e += 1;
     }
 }
@@ -144,11 +137,10 @@ pub fn write_plan(
 {
     let plan = plan_head(sheet);
     let waited = waits::waits(b, sheet, starts, made);
-    let longest = waited.longest;
-    write_header(out, plan, registers(b, sheet, longest), rounds);
-    let lines = waited.lines;
-    write_units(b, sheet, lines, slots_of(b, sheet), plan.unit_place(0), out);
+    write_header(out, plan, registers(b, sheet, waited), rounds);
+    let slots = slots_of(b, sheet);
+    let occupied = slots.occupied;
+    write_units(b, sheet, waited, occupied, plan.unit_place(0), out);
     write_nodes(b, sheet, starts, plan.node_place(0), out);
-    let waits = waited.waits;
-    write_switches(b, sheet, waits, plan.switch_place(0), out);
+    write_switches(b, sheet, waited, plan.switch_place(0), out);
 }

@@ -14,7 +14,7 @@ use Rattle.records.specs.declared.reading.Reason.{Reason}
 use Rattle.records.specs.declared.reading.Judged.the-variants as J
 use Rattle.records.specs.Units.{unit-fits}
 use Rattle.records.specs.Records.{at, units-in, nodes-in, wires-in, counts-fit, unit-place, node-place, whole-length, unit-at, node-at, marked, record-fault, reading-fault, node-fits}
-use Rattle.records.specs.Answers.{answer, judged, header-fault, front-fault}
+use Rattle.records.specs.Answers.{judged, header-fault, front-fault}
 use Rattle.records.proofs.ReadingLaws.{record-split}
 use Rattle.records.proofs.AnswerLaws.{refused-last, refused-first}
 use Rattle.records.proofs.FrontLaws.{front-same, node-same, front-whole, front-nodes}

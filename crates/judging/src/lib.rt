@@ -1,12 +1,13 @@
 // Judging bytes as a plan: the header, then the total length, then each record in file order, then 4, 5 and 9.
 ghost use mathlib.Core.Path.{_≡_};
+ghost use lib.ListN.{length};
 ghost use Rattle.words.specs.Loops.{_then_};
 ghost use Rattle.records.specs.Answers.{judged, front-fault};
 ghost use Rattle.slots.specs.Slots.{SlotsOf};
+ghost use Rattle.slots.specs.Feeding.{FedOf};
 ghost use Rattle.plans.specs.Plan.{node-in, plan-format, plan-read};
-ghost use Rattle.judging.specs.Answers.{plan-got, header-answer, plan-answer, switches-fault, fed-fault, figures-fault, nodes-fault, HeaderSaid, Fronted, Held, Occupied, Joins};
+ghost use Rattle.judging.specs.Answers.{plan-got, header-answer, plan-answer, switches-fault, fed-fault, figures-fault, nodes-fault, HeaderSaid, Fronted, Held, Occupied, TapsOf, input-of};
 use crate::figures::figures_right;
-use crate::switches::Joined;
 use crate::switches::join_switches;
 use plans::Plan;
 use records::reading::HeaderRead;
@@ -16,6 +17,7 @@ use records::reading::judge_parts;
 use slots::Slots;
 use slots::feeding::units_fed;
 use slots::slots_in;
+use times::Cycles;
 
 pub mod figures;
 pub mod switches;
@@ -79,22 +81,28 @@ fn slots_of(b: &[u8], p: Plan) -> Slots
 }
 
 // Inputs not fed once, then figures that are not right.
-fn judge_inputs(b: &[u8], p: Plan, occupied: [u32; 8], joined: Joined) -> Judged
+fn judge_inputs(
+    b: &[u8],
+    p: Plan,
+    occupied: &[u32],
+    twice: bool,
+    masks: &[u32],
+    taps: [Cycles; 8],
+) -> Judged
     requires { ⌜ Held (now b) p ⌝ }
-    requires { ⌜ Occupied (plan-read (now b)) occupied ⌝ }
-    requires { ⌜ Joins (plan-read (now b)) (p .wires) joined ⌝ }
+    requires { ⌜ Occupied (plan-read (now b)) (now occupied) ⌝ }
+    requires { ⌜ FedOf (p .wires) (input-of (plan-read (now b))) (record { masks = now masks; twice = twice }) ⌝ }
+    requires { ⌜ length (now masks) ≡ 16 ⌝ }
+    requires { ⌜ TapsOf (plan-read (now b)) (p .wires) taps ⌝ }
     ensures { λ r. ⌜ r ≡ judged (fed-fault (plan-read (now (b .entry))) then figures-fault (plan-read (now (b .entry)))) ⌝ }
 {
-    let fed = joined.fed;
-    if fed.twice {
+    if twice {
         return Judged::Refused(Reason::Unfed);
     }
-    let masks = fed.masks;
     if !units_fed(b, p.unit_run(), occupied, masks) {
         return Judged::Refused(Reason::Unfed);
     }
-    let taps = joined.taps;
-    if !figures_right(b, p, taps, &occupied[..]) {
+    if !figures_right(b, p, taps, occupied) {
         return Judged::Refused(Reason::Figures);
     }
     Judged::Passed
@@ -108,6 +116,9 @@ fn judge_rest(b: &[u8], p: Plan) -> Judged
     let slots = slots_of(b, p);
     let occupied = slots.occupied;
     let joined = join_switches(b, p, &occupied[..]);
+    let fed = joined.fed;
+    let masks = fed.masks;
+    let taps = joined.taps;
     let switches = joined.judged;
     let Judged::Passed = switches else {
         return switches;
@@ -115,7 +126,7 @@ fn judge_rest(b: &[u8], p: Plan) -> Judged
     if slots.clash {
         return Judged::Refused(Reason::Clash);
     }
-    judge_inputs(b, p, occupied, joined)
+    judge_inputs(b, p, &occupied[..], fed.twice, &masks[..], taps)
 }
 
 // The plan that the bytes are, or the reason of their first fault.

@@ -14,6 +14,7 @@ use Rattle.words.specs.Loops.{total, largest}
 use Rattle.times.specs.Times.{cycles-at}
 use Rattle.words.proofs.LoopLaws.{total-cong, largest-cong}
 use Rattle.words.proofs.CountLaws.{total-sum}
+use Rattle.records.specs.Records.{most-nodes}
 use Rattle.sheets.specs.declared.Sheet as Head
 use Rattle.sheets.specs.Sheet.{sheet-of, node-of}
 use Rattle.folding.specs.Walks.{start, foldable}
@@ -58,7 +59,7 @@ rounds-more b n c e = rw (add-one n) (omega arith)
 
 module _ (b : List ℕ) (s : Head.Sheet) (f : Fine b s) (folds : foldable (net (sheet-of b)) ≡ true) where
   -- node x's longest wait, as the array has it
-  pub wait-so : (longest : List Cycles) → Longest b (from-node b) 48 longest → (x : ℕ) → x < s .nodes → cycles-at longest x ≡ pos (wait-of b x)
+  pub wait-so : (longest : List Cycles) → Longest b (from-node b) most-nodes longest → (x : ℕ) → x < s .nodes → cycles-at longest x ≡ pos (wait-of b x)
   unfolding longest-wait
   wait-so longest l x h = l x (omega (arith, few-nodes b s f))
 

@@ -4,6 +4,7 @@ ghost use Prim.Native.Nat.{_+_, _%_, _<_, _≤_, max};
 ghost use lib.ListN.{getD};
 ghost use Rattle.words.specs.Loops.{largest};
 ghost use mathlib.Core.Bool.{true};
+ghost use Rattle.records.specs.Records.{most-nodes};
 ghost use Rattle.sheets.specs.Sheet.{sheet-of};
 ghost use Rattle.folding.specs.Walks.{start, foldable};
 ghost use Rattle.folding.specs.Folding.{net};
@@ -11,7 +12,7 @@ ghost use Rattle.folding.specs.Lifetime.{first-live, registers};
 ghost use Rattle.waits.specs.Fine.{Fine, Longest, from-node};
 ghost use Rattle.lifetimes.specs.Counts.{LiveOf};
 use sheets::Sheet;
-use times::Cycles;
+use waits::Waited;
 
 // The slot after t.
 fn next_slot(t: u32, fold: u32) -> u32
@@ -42,15 +43,16 @@ fn larger(a: u32, b: u32) -> u32
     if a < b { b } else { a }
 }
 
-// The first cycle in which node x's word is live.
-fn first_live(b: &[u8], sheet: Sheet, x: usize) -> u32
+// The slot of the first cycle in which node x's word is live.
+fn first_slot(b: &[u8], sheet: Sheet, x: usize) -> u32
     requires { ⌜ Fine (now b) sheet ⌝ }
     requires { ⌜ x < sheet .nodes ⌝ }
-    ensures { λ r. ⌜ r ≡ first-live (sheet-of (now (b .entry))) x ⌝ }
+    ensures { λ r. ⌜ r ≡ first-live (sheet-of (now (b .entry))) x % sheet .fold ⌝ }
 {
     let node = sheets::node_of(b, sheet, x);
     let unit = sheets::unit_of(b, sheet, node.unit as usize);
-    node.slot as u32 + unit.depth as u32 + 1
+    let cycle = node.slot as u32 + unit.depth as u32 + 1;
+    cycle % words::divisor(sheet.fold)
 }
 
 // The live cycles of all nodes: the whole rounds, which count in every slot, and what is left by slots.
@@ -60,10 +62,10 @@ pub struct Live {
 }
 
 // A turn counts one of the `rest` cycles that are left of a wait, in slot t, or goes on to the next node.
-pub fn live_counts(b: &[u8], sheet: Sheet, longest: [Cycles; Sheet::MOST_NODES]) -> Live
+pub fn live_counts(b: &[u8], sheet: Sheet, waited: Waited) -> Live
     requires { ⌜ Fine (now b) sheet ⌝ }
     requires { ⌜ foldable (net (sheet-of (now b))) ≡ true ⌝ }
-    requires { ⌜ Longest (now b) (from-node (now b)) 48 longest ⌝ }
+    requires { ⌜ Longest (now b) (from-node (now b)) most-nodes (waited .longest) ⌝ }
     ensures { λ r. ⌜ LiveOf (now (b .entry)) (sheet .nodes) r ⌝ }
 {
     let nodes = sheet.nodes as usize;
@@ -81,8 +83,8 @@ pub fn live_counts(b: &[u8], sheet: Sheet, longest: [Cycles; Sheet::MOST_NODES])
             rest -= 1;
             continue;
         }
-        let wait = longest[x];
-        t = first_live(b, sheet, x) % (fold as u32);
+        let wait = waited.longest[x];
+        t = first_slot(b, sheet, x);
         rest = wait.rest(fold);
         turns += wait.turns(fold);
         x += 1;
@@ -91,13 +93,13 @@ pub fn live_counts(b: &[u8], sheet: Sheet, longest: [Cycles; Sheet::MOST_NODES])
 }
 
 // The register figure: the largest live count of any slot.
-pub fn registers(b: &[u8], sheet: Sheet, longest: [Cycles; Sheet::MOST_NODES]) -> u16
+pub fn registers(b: &[u8], sheet: Sheet, waited: Waited) -> u16
     requires { ⌜ Fine (now b) sheet ⌝ }
     requires { ⌜ foldable (net (sheet-of (now b))) ≡ true ⌝ }
-    requires { ⌜ Longest (now b) (from-node (now b)) 48 longest ⌝ }
+    requires { ⌜ Longest (now b) (from-node (now b)) most-nodes (waited .longest) ⌝ }
     ensures { λ r. ⌜ r ≡ registers (sheet-of (now (b .entry))) (start (net (sheet-of (now (b .entry))))) ⌝ }
 {
-    let live = live_counts(b, sheet, longest);
+    let live = live_counts(b, sheet, waited);
     let counts = live.counts;
     (most(counts, sheet.fold as usize) + live.turns) as u16
 }

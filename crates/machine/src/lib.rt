@@ -197,6 +197,7 @@ fn step_judged(
     ensures { λ r. ⌜ Stepping (now (plan .entry)) (now (memory .entry)) (now (channels .entry)) (now (out .entry)) (stepped-number r) (now (memory .exit)) (now (out .exit)) ⌝ }
 {
     let lines = lines_of(plan, p);
+    let at = lines.at;
     if memory.len() < lines.size {
         return Stepped::Short;
     }
@@ -209,9 +210,9 @@ fn step_judged(
     if memory[0] == Stepped::LAST_COUNT {
         return Stepped::Late;
     }
-    let words = results(plan, p, lines, memory, channels);
-    leave(plan, p, lines, memory, out);
-    advance(plan, p, lines, memory, &words[..]);
+    let words = results(plan, p, &at[..], memory, channels);
+    leave(plan, p, &at[..], memory, out);
+    advance(plan, p, &at[..], memory, &words[..]);
     Stepped::Done
 }
 

@@ -15,13 +15,18 @@ pub record Taken (b : List ℕ) (p : Head.Plan) : Type 0 where
   pub head : p ≡ plan-head b
   pub fine : plan-fault b ≡ 0
 
--- where the places of each unit begin in memory, and the memory's words
+-- where the places of each unit begin in memory
+abbrev pub LinesAt : Plan → List ℕ → Type 0
+LinesAt p l = (q : ℕ) → q < length (p .units) → getD l q 0 ≡ suc (base p q)
+
+-- that, and the memory's words
 pub record LinesOf (p : Plan) (r : Lines) : Type 0 where
-  pub at : (q : ℕ) → q < length (p .units) → getD (r .at) q 0 ≡ suc (base p q)
+  pub at : LinesAt p (r .at)
   pub size-is : r .size ≡ size p
 
--- what a step's parts ask: a plan without fault, its lines, and a memory m with room for them
-pub record Ready (b : List ℕ) (p : Head.Plan) (lines : Lines) (m : List ℕ) : Type 0 where
+-- what a step's parts ask: a plan without fault, where its lines begin, and a memory m with room for them
+pub record Ready (b : List ℕ) (p : Head.Plan) (lines m : List ℕ) : Type 0 where
   pub taken : Taken b p
-  pub lines-so : LinesOf (plan-read b) lines
+  pub lines-so : LinesAt (plan-read b) lines
+  pub eight : length lines ≡ 8
   pub room : size (plan-read b) ≤ length m

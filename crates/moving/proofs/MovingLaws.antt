@@ -13,8 +13,7 @@ use Rattle.records.specs.Records.{at, over}
 use Rattle.plans.specs.declared.Plan as Head
 use Rattle.plans.specs.Plan.{Plan, unit-in, plan-read}
 use Rattle.memory.specs.Memory.{places, base, size, blocks, cleared, reading, leaving}
-use Rattle.memory.specs.declared.Lines.{Lines}
-use Rattle.memory.specs.Taken.{Taken, LinesOf}
+use Rattle.memory.specs.Taken.{Taken, LinesAt}
 use Rattle.moving.specs.Moving.{shifted, wiped, moved-by, advanced}
 use Rattle.plans.proofs.WholeLaws.{units-so}
 use Rattle.memory.proofs.TakenLaws.{whole-taken, unit-fine}
@@ -102,12 +101,12 @@ module _ (p : Plan) (m r : List ℕ) (room : size p ≤ length m) where
 
 -- ---- where the places of a plan without fault stand
 
-module _ (b : List ℕ) (p : Head.Plan) (t : Taken b p) (lines : Lines) (so : LinesOf (plan-read b) lines) where
-  at-line : (q : ℕ) → q < p .units → getD (lines .at) q 0 ≡ suc (base (plan-read b) q)
-  at-line q h = so .at q (omega (arith, units-so b p (whole-taken t)))
+module _ (b : List ℕ) (p : Head.Plan) (t : Taken b p) (lines : List ℕ) (so : LinesAt (plan-read b) lines) where
+  at-line : (q : ℕ) → q < p .units → getD lines q 0 ≡ suc (base (plan-read b) q)
+  at-line q h = so q (omega (arith, units-so b p (whole-taken t)))
 
   -- a unit has a place, and all lie in the memory
-  pub line-inside : (q n : ℕ) → q < p .units → n ≡ places (plan-read b) q → (0 < n) × (getD (lines .at) q 0 + n ≤ size (plan-read b))
+  pub line-inside : (q n : ℕ) → q < p .units → n ≡ places (plan-read b) q → (0 < n) × (getD lines q 0 + n ≤ size (plan-read b))
   unfolding size
   line-inside q n h is =
       let pl = plan-read b in
@@ -115,7 +114,7 @@ module _ (b : List ℕ) (p : Head.Plan) (t : Taken b p) (lines : Lines) (so : Li
 
   -- place P − 1
   pub last-place : (q depth : ℕ) → q < p .units → depth ≡ unit-in (plan-read b) q .unit .depth →
-      (getD (lines .at) q 0 + (depth - 1) ≡ suc (base (plan-read b) q + (unit-in (plan-read b) q .unit .depth - 1 + 0))) × (getD (lines .at) q 0 + (depth - 1) < size (plan-read b))
+      (getD lines q 0 + (depth - 1) ≡ suc (base (plan-read b) q + (unit-in (plan-read b) q .unit .depth - 1 + 0))) × (getD lines q 0 + (depth - 1) < size (plan-read b))
   last-place q depth h is =
       let inside = line-inside q (places (plan-read b) q) h refl in
       (omega (arith, at-line q h), omega (arith, inside .1, unit-fine b p t q h .deep))

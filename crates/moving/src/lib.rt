@@ -9,7 +9,6 @@ ghost use Rattle.plans.specs.Plan.{plan-read};
 ghost use Rattle.memory.specs.Memory.{leaving};
 ghost use Rattle.memory.specs.Taken.{Ready};
 ghost use Rattle.moving.specs.Moving.{shifted, wiped, advanced};
-use memory::Lines;
 use memory::WORD_BEFORE;
 use memory::depth_of;
 use memory::places_at;
@@ -29,15 +28,15 @@ pub fn wipe(memory: &mut [u32], n: usize)
 }
 
 // The words leaving now go to the output, one per unit.
-pub fn leave(plan: &[u8], p: Plan, lines: Lines, memory: &[u32], out: &mut [u32])
-    requires { ⌜ Ready (now plan) p lines (now memory) ⌝ }
+pub fn leave(plan: &[u8], p: Plan, lines: &[usize], memory: &[u32], out: &mut [u32])
+    requires { ⌜ Ready (now plan) p (now lines) (now memory) ⌝ }
     requires { ⌜ p .units ≤ length (now out) ⌝ }
     ensures { λ r. ⌜ now (out .exit) ≡ over (leaving (plan-read (now (plan .entry))) (now (memory .entry))) (now (out .entry)) ⌝ }
 {
     let units = p.units as usize;
     let mut q = 0;
     while q < units {
-        let from = lines.at[q];
+        let from = lines[q];
         let last = depth_of(plan, p, q) as usize - 1;
         out[q] = memory[from + last];
         q += 1;
@@ -68,8 +67,8 @@ pub fn shift(memory: &mut [u32], from: usize, n: usize, x: u32)
 }
 
 // Each unit's places move by one, its result first, and t rises by 1.
-pub fn advance(plan: &[u8], p: Plan, lines: Lines, memory: &mut [u32], results: &[u32])
-    requires { ⌜ Ready (now plan) p lines (now memory) ⌝ }
+pub fn advance(plan: &[u8], p: Plan, lines: &[usize], memory: &mut [u32], results: &[u32])
+    requires { ⌜ Ready (now plan) p (now lines) (now memory) ⌝ }
     requires { ⌜ at (now memory) 0 + 1 < 2 ^ 32 ⌝ }
     requires { ⌜ p .units ≤ length (now results) ⌝ }
     ensures { λ r. ⌜ now (memory .exit) ≡ advanced (plan-read (now (plan .entry))) (now (memory .entry)) (now (results .entry)) ⌝ }
@@ -77,7 +76,7 @@ pub fn advance(plan: &[u8], p: Plan, lines: Lines, memory: &mut [u32], results: 
     let units = p.units as usize;
     let mut q = 0;
     while q < units {
-        let from = lines.at[q];
+        let from = lines[q];
         let n = places_at(plan, p.unit_place(q));
         shift(memory, from, n, results[q]);
         q += 1;

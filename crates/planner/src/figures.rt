@@ -18,15 +18,13 @@ fn live_judged(b: &[u8], sheet: Sheet, slot: u8) -> u32
     if sheet.fold <= slot {
         return 0;
     }
-    let bounds = waits::bounds(b, sheet, [Iterations::zero(); Sheet::MOST_WIRES]);
-    let timed = retime_sheet(b, sheet, bounds);
+    let timed = retime_sheet(b, sheet, [Iterations::zero(); Sheet::MOST_WIRES]);
     if !timed.settled {
         return 0;
     }
     let starts = timed.starts;
     let waited = waits::waits(b, sheet, starts, [Cycles::zero(); Sheet::MOST_WIRES]);
-    let longest = waited.longest;
-    let live = live_counts(b, sheet, longest);
+    let live = live_counts(b, sheet, waited);
     let counts = live.counts;
     counts[slot as usize] + live.turns
 }

@@ -2,14 +2,13 @@
 // buffer, then whether the sheet folds; a refusal other than 6 changes nothing.
 ghost use mathlib.Core.Path.{_≡_};
 ghost use mathlib.Core.Bool.{false};
-ghost use Prim.Native.Nat.{ℕ, _*_, _<_, _≤_};
+ghost use Prim.Native.Nat.{_*_, _≤_};
 ghost use lib.ListN.{length};
-ghost use Rattle.times.specs.Times.{iterations-at};
 ghost use Rattle.records.specs.Records.{over};
 ghost use Rattle.records.specs.Answers.{reason-number};
 ghost use Rattle.sheets.specs.Sheet.{sheet-of};
 ghost use Rattle.folding.specs.Walks.{foldable};
-ghost use Rattle.folding.specs.Folding.{net, bound};
+ghost use Rattle.folding.specs.Folding.{net};
 ghost use Rattle.plans.specs.Plan.{loop-bytes, loop-length};
 ghost use Rattle.waits.specs.Fine.{Fine};
 ghost use Rattle.drawing.specs.PlanOf.{plan-length};
@@ -106,18 +105,13 @@ fn write_loop(wires: &[u8], out: &mut [u8])
 }
 
 // A loop of a sheet that does not fold, and how many bytes it takes.
-fn show_loop(
-    b: &[u8],
-    sheet: Sheet,
-    bounds: [Iterations; Sheet::MOST_WIRES],
-    out: &mut [u8],
-) -> usize
+fn show_loop(b: &[u8], sheet: Sheet, made: [Iterations; Sheet::MOST_WIRES], out: &mut [u8]) -> usize
     requires { ⌜ Fine (now b) sheet ⌝ }
-    requires { ⌜ ((e : ℕ) → e < sheet .wires → iterations-at bounds e ≡ bound (sheet-of (now b)) e) ⌝ }
     requires { ⌜ foldable (net (sheet-of (now b))) ≡ false ⌝ }
     requires { ⌜ plan-length (now b) ≤ length (now out) ⌝ }
     ensures { λ r. ⌜ LoopShown (now (b .entry)) (now (out .entry)) r (now (out .exit)) ⌝ }
 {
+    let bounds = waits::bounds(b, sheet, made);
     let at = sheet.wire_run().at;
     let found = find_loop(b, at, sheet.wires as usize, sheet.nodes as usize, bounds);
     let wires = found.wires;
@@ -126,11 +120,11 @@ fn show_loop(
 }
 
 // The latest retiming of a sheet without fault.
-fn retime_sheet(b: &[u8], sheet: Sheet, bounds: [Iterations; Sheet::MOST_WIRES]) -> Retimed
+fn retime_sheet(b: &[u8], sheet: Sheet, made: [Iterations; Sheet::MOST_WIRES]) -> Retimed
     requires { ⌜ Fine (now b) sheet ⌝ }
-    requires { ⌜ ((e : ℕ) → e < sheet .wires → iterations-at bounds e ≡ bound (sheet-of (now b)) e) ⌝ }
     ensures { λ r. ⌜ TimedSheet (now (b .entry)) r ⌝ }
 {
+    let bounds = waits::bounds(b, sheet, made);
     let at = sheet.wire_run().at;
     retime(b, at, sheet.wires as usize, sheet.nodes as usize, bounds)
 }
@@ -150,10 +144,9 @@ fn plan_judged(
     if out.len() < size {
         return Planned::Short(size);
     }
-    let bounds = waits::bounds(b, sheet, made);
-    let timed = retime_sheet(b, sheet, bounds);
+    let timed = retime_sheet(b, sheet, made);
     if !timed.settled {
-        return Planned::Unfoldable(show_loop(b, sheet, bounds, out));
+        return Planned::Unfoldable(show_loop(b, sheet, made, out));
     }
     let starts = timed.starts;
     write_plan(b, sheet, starts, timed.rounds, waits, out);

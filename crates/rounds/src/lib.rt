@@ -151,7 +151,7 @@ pub fn starts(totals: [Iterations; Layout::NODES], nodes: usize) -> [Iterations;
     starts
 }
 
-// Rounds, and where they settle the starts.
+// Rounds, and where they settle the starts; where they do not there are none.
 pub fn retime(
     b: &[u8],
     at: usize,
@@ -164,14 +164,14 @@ pub fn retime(
     ensures { λ r. ⌜ Timed (bytes-net (now (b .entry)) at nodes wires bounds) r ⌝ }
 {
     let rows = settle(b, at, wires, nodes, bounds);
-    let totals = rows.totals;
     if !rows.settled {
         return Retimed {
-            starts: totals,
+            starts: no_totals(),
             rounds: rows.rounds,
             settled: false,
         };
     }
+    let totals = rows.totals;
     let shifted = starts(totals, nodes);
     Retimed {
         starts: shifted,

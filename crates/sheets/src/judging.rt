@@ -181,7 +181,7 @@ fn judge_nodes(b: &[u8], sheet: Sheet) -> Judged
     let fed = fed_of(b, sheet);
     let occupied = slots.occupied;
     let masks = fed.masks;
-    if fed.twice | !units_fed(b, sheet.unit_run(), occupied, masks) {
+    if fed.twice | !units_fed(b, sheet.unit_run(), &occupied[..], &masks[..]) {
         return Judged::Refused(Reason::Unfed);
     }
     Judged::Passed

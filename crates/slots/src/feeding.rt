@@ -1,7 +1,7 @@
 // Inputs fed, as masks: for each unit and input the slots in which it is fed. What feeds them, a sheet's wires or a plan's
 // switches, is read by the crates above.
 ghost use mathlib.Core.Path.{_≡_};
-ghost use Prim.Native.Nat.{_<_, _≤_};
+ghost use Prim.Native.Nat.{_*_, _<_, _≤_};
 ghost use lib.ListN.{length};
 ghost use Rattle.records.specs.Records.{most-units};
 ghost use Rattle.records.specs.Answers.{unit-part, units-in-run, Inside};
@@ -49,15 +49,11 @@ fn unit_fed(kind: u8, occupied: u32, first: u32, second: u32) -> bool
 }
 
 // Whether each unit's inputs are fed in its occupied slots, and in no other.
-pub fn units_fed(
-    b: &[u8],
-    units: Run,
-    occupied: [u32; Header::MOST_UNITS],
-    masks: [u32; Fed::MASKS],
-) -> bool
+pub fn units_fed(b: &[u8], units: Run, occupied: &[u32], masks: &[u32]) -> bool
     requires { ⌜ Inside unit-part units (length (now b)) ⌝ }
-    requires { ⌜ units .count ≤ most-units ⌝ }
-    ensures { λ r. ⌜ r ≡ units-fed (units .count) (units-in-run (now (b .entry)) units) occupied masks ⌝ }
+    requires { ⌜ units .count ≤ length (now occupied) ⌝ }
+    requires { ⌜ most-inputs * units .count ≤ length (now masks) ⌝ }
+    ensures { λ r. ⌜ r ≡ units-fed (units .count) (units-in-run (now (b .entry)) units) (now (occupied .entry)) (now (masks .entry)) ⌝ }
 {
     let mut q = 0;
     while q < units.count {

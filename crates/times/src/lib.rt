@@ -102,7 +102,7 @@ impl Cycles {
         requires { ⌜ 0 < fold ⌝ }
         ensures { λ r. ⌜ r ≡ natAbs (self .0) / fold ⌝ }
     {
-        self.count() / fold as u32
+        self.count() / words::divisor(fold)
     }
 
     // The cycles beyond whole rounds of N.
@@ -111,7 +111,7 @@ impl Cycles {
         requires { ⌜ 0 < fold ⌝ }
         ensures { λ r. ⌜ r ≡ natAbs (self .0) % fold ⌝ }
     {
-        self.count() % fold as u32
+        self.count() % words::divisor(fold)
     }
 
     // The place that a tap reads on a unit of that depth: P − 1 + tap.

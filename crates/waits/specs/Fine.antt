@@ -11,6 +11,7 @@ use Rattle.times.specs.declared.Cycles.{Cycles}
 use Rattle.times.specs.declared.Iterations.{Iterations}
 use Rattle.words.specs.Loops.{largest}
 use Rattle.times.specs.Times.{iterations-at, cycles-at}
+use Rattle.records.specs.Records.{most-units, most-nodes}
 use Rattle.sheets.specs.declared.Sheet as Head
 use Rattle.sheets.specs.Sheet.{Sheet, node-of, wire-of, sheet-of, sheet-fault}
 use Rattle.sheets.specs.Answers.{Whole}
@@ -47,8 +48,8 @@ from-unit b e = node-of (sheet-of b) (wire-of (sheet-of b) e .from) .unit
 -- what the wires wait, by wire, by node and by unit
 pub record Waiting (b : List ℕ) (r : Waited) : Type 0 where
   pub tapped : Tapped b (r .waits)
-  pub longest : Longest b (from-node b) 48 (r .longest)
-  pub lines : Longest b (from-unit b) 8 (r .lines)
+  pub longest : Longest b (from-node b) most-nodes (r .longest)
+  pub lines : Longest b (from-unit b) most-units (r .lines)
 
 -- a start's range, as far as a wait's size asks it
 abbrev pub Near : ℤ → Type 0

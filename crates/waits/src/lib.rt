@@ -84,9 +84,11 @@ pub fn waits(
     ensures { λ r. ⌜ Waiting (now (b .entry)) r ⌝ }
 {
     let wires = sheet.wires as usize;
-    let mut waits = made;
-    let mut longest = no_waits();
-    let mut lines = no_lines();
+    let mut waited = Waited {
+        waits: made,
+        longest: no_waits(),
+        lines: no_lines(),
+    };
     let mut e = 0;
     while e < wires {
         let wire = sheets::wire_of(b, sheet, e);
@@ -94,14 +96,12 @@ pub fn waits(
         let to = wire.to as usize;
         let unit = sheets::node_of(b, sheet, from).unit as usize;
         let wait = wait_of(b, sheet, e, starts[from], starts[to]);
-        waits[e] = wait;
-        longest[from] = longest[from].larger(wait);
-        lines[unit] = lines[unit].larger(wait);
+        waited.waits[e] = wait;
+        let longest = waited.longest[from];
+        waited.longest[from] = longest.larger(wait);
+        let line = waited.lines[unit];
+        waited.lines[unit] = line.larger(wait);
         e += 1;
     }
-    Waited {
-        waits,
-        longest,
-        lines,
-    }
+    waited
 }

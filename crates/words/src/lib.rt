@@ -69,11 +69,19 @@ pub fn to_bytes16(k: i16) -> u16
     (to_word(k as i64) % 0x1_0000) as u16
 }
 
+// n to divide by: one more than n − 1, so that what is compiled need not test it for 0.
+pub fn divisor(n: u8) -> u32
+    requires { ⌜ 0 < n ⌝ }
+    ensures { λ r. ⌜ r ≡ n ⌝ }
+{
+    (n - 1) as u32 + 1
+}
+
 // d over n, rounded towards minus infinity. Below 0 the division is of −1 − d, which is not below 0.
 pub fn floor_div(d: i32, n: u8) -> i32
     requires { ⌜ 0 < n ⌝ }
     ensures { λ r. ⌜ r ≡ floor d n ⌝ }
 {
-    let m = n as i32;
+    let m = divisor(n) as i32;
     if d < 0 { -1 - (-1 - d) / m } else { d / m }
 }

@@ -18,11 +18,11 @@ use Rattle.cycle.proofs.inputs_in.Statement.{statement}
 use Rattle.cycle.proofs.inputs_in.Tie as tie
 
 abbrev Inv-loop : tie.InvT-loop
-Inv-loop plan p memory slot lines wires words₀ e₀ words e =
+Inv-loop plan p lines memory slot wires words₀ e₀ words e =
     (e ≤ p .wires) × (length words ≡ 16) × Gathered e (in-slot (plan-read plan) slot) (input-place (plan-read plan)) (tapped (plan-read plan) memory) 16 words
 
 abbrev μ-loop : tie.MeasureT-loop
-μ-loop plan p memory slot lines wires words₀ e₀ words e = p .wires - e
+μ-loop plan p lines memory slot wires words₀ e₀ words e = p .wires - e
 
 cast-wires : tie.Need-cast-wires Inv-loop μ-loop
 cast-wires c = search needs
@@ -33,12 +33,12 @@ loop-holds c = (omega arith, refl, λ k h. getD-replicate 16 k 0 0 h)
 
 switch-place-requires : tie.Need-switch-place-requires Inv-loop μ-loop
 switch-place-requires c κs =
-    let s = c .before .before .before .before .before in
+    let s = c .before .before .before .before .before .before in
     omega (arith, few-wires (s .args .plan .now) (s .args .p) (s .pre .taken))
 
 joint-at-requires : tie.Need-joint-at-requires Inv-loop μ-loop
 joint-at-requires c κs =
-    let s = c .before .before .before .before .before .before in
+    let s = c .before .before .before .before .before .before .before in
     omega (arith, c .switch-place .ensures, switch-inside (s .args .plan .now) (s .args .p) (whole-taken (s .pre .taken)) (c .before .before .loop .e) (c .before .loop-test .taken))
 
 cast-k : tie.Need-cast-k Inv-loop μ-loop
@@ -59,24 +59,24 @@ source-of-requires c κs = search needs
 mul-from : tie.Need-mul-from Inv-loop μ-loop
 mul-from c = search needs
 
-element-copy-out-from : tie.Need-element-copy-out-from Inv-loop μ-loop
-element-copy-out-from c =
-    let s = c .before .before .before .before .before .before .before .before .before .before .before .before in
-    omega (arith, c .source-of .ensures .1, few-units (s .args .plan .now) (s .args .p) (s .pre .taken))
+shared-slice-read-from : tie.Need-shared-slice-read-from Inv-loop μ-loop
+shared-slice-read-from c =
+    let s = c .before .before .before .before .before .before .before .before .before .before .before .before .before .before in
+    omega (arith, c .before .source-of .ensures .1, few-units (s .args .plan .now) (s .args .p) (s .pre .taken))
 
 tapped-requires : tie.Need-tapped-requires Inv-loop μ-loop
 tapped-requires c κs =
-    let s = c .before .before .before .before .before .before .before .before .before .before .before .before .before in
+    let s = c .before .before .before .before .before .before .before .before .before .before .before .before .before .before in
     let at-e = c .before .before .before .before .before .before .before .before in
     let source = c .before .source-of in
-    (s .pre .taken, (source-begins (s .args .plan .now) (s .args .p) (s .pre .taken) (s .args .t3) (s .pre .lines-so) (at-e .before .loop .e) (source .result) (at-e .loop-test .taken) (source .ensures .0), (at-e .loop-test .taken, s .pre .room)))
+    (s .pre .taken, (source-begins (s .args .plan .now) (s .args .p) (s .pre .taken) (s .args .lines .now) (s .pre .lines-so) (at-e .before .loop .e) (source .result) (at-e .loop-test .taken) (source .ensures .0), (at-e .loop-test .taken, s .pre .room)))
 
 mul-words : tie.Need-mul-words Inv-loop μ-loop
 mul-words c = search needs
 
 array-write-words : tie.Need-array-write-words Inv-loop μ-loop
 array-write-words c =
-    let s = c .before .before .before .before .before .before .before .before .before .before .before .before .before .before in
+    let s = c .before .before .before .before .before .before .before .before .before .before .before .before .before .before .before in
     let at-e = c .before .before .before .before .before .before .before .before .before in
     let j = joint-so (s .args .plan .now) (s .args .p) (s .pre .taken) (at-e .before .loop .e) (at-e .loop-test .taken) (c .before .before .before .before .before .before .before .joint-at .result)
     (c .before .before .before .before .before .before .before .joint-at .ensures ∙ ap (joint-at (s .args .plan .now)) (c .before .before .before .before .before .before .before .before .switch-place .ensures)) in
@@ -90,7 +90,7 @@ loop-less c = search needs
 
 loop-again : tie.Need-loop-again Inv-loop μ-loop
 loop-again c =
-    let s = c .before .before .before .before .before .before .before .before .before in
+    let s = c .before .before .before .before .before .before .before .before .before .before in
     let l = c .before .before .before .before .before .loop in
     let pl = plan-read (s .args .plan .now) in
     let reads = tapped pl (s .args .memory .now) in
@@ -111,7 +111,7 @@ loop-again c =
 
 returns : tie.Need-returns Inv-loop μ-loop
 returns c =
-    let s = c .before .before .before .before .before in
+    let s = c .before .before .before .before .before .before in
     let l = c .before .loop in
     let all : l .e ≡ s .args .p .wires = omega (arith, l .inv .0, c .loop-test .left) in
     λ k h. l .inv .2 k h ∙ ap (λ (n : ℕ). last-of n (λ e. in-slot (plan-read (s .args .plan .now)) (s .args .slot) e && eqb (input-place (plan-read (s .args .plan .now)) e) k) (tapped (plan-read (s .args .plan .now)) (s .args .memory .now))) all
@@ -132,7 +132,7 @@ inputs-in-spec =
     add-k
     source-of-requires
     mul-from
-    element-copy-out-from
+    shared-slice-read-from
     tapped-requires
     mul-words
     array-write-words

@@ -19,10 +19,10 @@ use Rattle.drawing.proofs.write_switches.Statement.{statement}
 use Rattle.drawing.proofs.write_switches.Tie as tie
 
 abbrev Inv-loop : tie.InvT-loop
-Inv-loop b sheet at out₀ waits wires e₀ out e = (e ≤ sheet .wires) × (length out ≡ length out₀) × (out ≡ laid out₀ at (switch-records b e))
+Inv-loop b sheet at out₀ waited wires e₀ out e = (e ≤ sheet .wires) × (length out ≡ length out₀) × (out ≡ laid out₀ at (switch-records b e))
 
 abbrev μ-loop : tie.MeasureT-loop
-μ-loop b sheet at out₀ waits wires e₀ out e = sheet .wires - e
+μ-loop b sheet at out₀ waited wires e₀ out e = sheet .wires - e
 
 cast-wires : tie.Need-cast-wires Inv-loop μ-loop
 cast-wires c = search needs
@@ -44,8 +44,8 @@ add-write-switch c = search needs
 mul-write-switch-2 : tie.Need-mul-write-switch-2 Inv-loop μ-loop
 mul-write-switch-2 c = search needs
 
-array-copy-out-write-switch : tie.Need-array-copy-out-write-switch Inv-loop μ-loop
-array-copy-out-write-switch c =
+element-copy-out-write-switch : tie.Need-element-copy-out-write-switch Inv-loop μ-loop
+element-copy-out-write-switch c =
     let s = c .before .before .before .before .before .before .before in
     omega (arith, few-wires (s .args .b .now) (s .args .sheet) (s .pre .0), c .before .before .loop-test .taken)
 
@@ -70,7 +70,7 @@ loop-again c =
     let more = c .before .before .before .before .before .before .loop-test .taken in
     let tapped = s .pre .1 .0 (l .e) (omega (arith, more, wires-so b (s .args .sheet) (s .pre .0))) in
     let next = laid-more switch-bytes 8 (λ a. refl) (plan-switch (sheet-of b) (starts-in b)) (s .args .out .now) (s .args .at) (l .e) (l .out) (c .before .before .write-switch .last .0)
-    (record { unit = c .before .before .before .before .before .joint-of .result .unit; input = c .before .before .before .before .before .joint-of .result .input; slot = c .before .before .before .before .before .joint-of .result .slot; source = c .before .before .before .before .before .joint-of .result .source; tap = natAbs (cycles-at (s .args .t3) (l .e)) }) (l .inv .2) (rw (c .before .before .before .before .before .joint-of .ensures, tapped) refl) (c .before .before .write-switch .ensures) in
+    (record { unit = c .before .before .before .before .before .joint-of .result .unit; input = c .before .before .before .before .before .joint-of .result .input; slot = c .before .before .before .before .before .joint-of .result .slot; source = c .before .before .before .before .before .joint-of .result .source; tap = natAbs (cycles-at (s .args .t3 .waits) (l .e)) }) (l .inv .2) (rw (c .before .before .before .before .before .joint-of .ensures, tapped) refl) (c .before .before .write-switch .ensures) in
     (omega (arith, more), ap length (c .before .before .write-switch .ensures) ∙ length-laid (l .out) (s .args .at + 8 * l .e) _ ∙ l .inv .1, next)
 
 same-length : tie.Need-same-length Inv-loop μ-loop
@@ -94,7 +94,7 @@ write-switches-spec =
     mul-write-switch
     add-write-switch
     mul-write-switch-2
-    array-copy-out-write-switch
+    element-copy-out-write-switch
     write-switch-requires
     add-e
     loop-less

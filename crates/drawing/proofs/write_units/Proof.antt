@@ -20,10 +20,10 @@ use Rattle.drawing.proofs.write_units.Statement.{statement}
 use Rattle.drawing.proofs.write_units.Tie as tie
 
 abbrev Inv-loop : tie.InvT-loop
-Inv-loop b sheet at out₀ lines slots units q₀ out q = (q ≤ sheet .units) × (length out ≡ length out₀) × (out ≡ laid out₀ at (unit-records b q))
+Inv-loop b sheet at out₀ waited occupied units q₀ out q = (q ≤ sheet .units) × (length out ≡ length out₀) × (out ≡ laid out₀ at (unit-records b q))
 
 abbrev μ-loop : tie.MeasureT-loop
-μ-loop b sheet at out₀ lines slots units q₀ out q = sheet .units - q
+μ-loop b sheet at out₀ waited occupied units q₀ out q = sheet .units - q
 
 cast-units : tie.Need-cast-units Inv-loop μ-loop
 cast-units c = search needs
@@ -39,15 +39,15 @@ unit-of-requires c κs = (c .before .before .before .before .before .pre .0 .who
 mul-idle-of : tie.Need-mul-idle-of Inv-loop μ-loop
 mul-idle-of c = search needs
 
-element-copy-out-idle-of : tie.Need-element-copy-out-idle-of Inv-loop μ-loop
-element-copy-out-idle-of c =
+array-read-idle-of : tie.Need-array-read-idle-of Inv-loop μ-loop
+array-read-idle-of c =
     let s = c .before .before .before .before .before .before in
     omega (arith, few-units (s .args .b .now) (s .args .sheet) (s .pre .0), c .before .loop-test .taken)
 
 idle-of-requires : tie.Need-idle-of-requires Inv-loop μ-loop
 idle-of-requires c κs =
-    let s = c .before .before .before .before .before .before .before in
-    mask-most (s .args .b .now) (s .args .sheet) (s .pre .0) (s .args .t4) (s .pre .1 .1 .0) (c .before .before .before .loop .q)
+    let s = c .before .before .before .before .before .before in
+    mask-most (s .args .b .now) (s .args .sheet) (s .pre .0) (s .args .t4) (s .pre .1 .1 .0) (c .before .before .loop .q)
 
 mul-write-unit : tie.Need-mul-write-unit Inv-loop μ-loop
 mul-write-unit c = search needs
@@ -58,16 +58,16 @@ add-write-unit c = search needs
 mul-write-unit-2 : tie.Need-mul-write-unit-2 Inv-loop μ-loop
 mul-write-unit-2 c = search needs
 
-array-copy-out-write-unit : tie.Need-array-copy-out-write-unit Inv-loop μ-loop
-array-copy-out-write-unit c =
-    let s = c .before .before .before .before .before .before .before .before .before in
-    omega (arith, few-units (s .args .b .now) (s .args .sheet) (s .pre .0), c .before .before .before .before .loop-test .taken)
+element-copy-out-write-unit : tie.Need-element-copy-out-write-unit Inv-loop μ-loop
+element-copy-out-write-unit c =
+    let s = c .before .before .before .before .before .before .before .before in
+    omega (arith, few-units (s .args .b .now) (s .args .sheet) (s .pre .0), c .before .before .before .loop-test .taken)
 
 write-unit-requires : tie.Need-write-unit-requires Inv-loop μ-loop
 write-unit-requires c κs =
-    let s = c .before .before .before .before .before .before .before .before .before .before in
-    let l = c .before .before .before .before .before .before .loop in
-    let more = c .before .before .before .before .before .loop-test .taken in
+    let s = c .before .before .before .before .before .before .before .before .before in
+    let l = c .before .before .before .before .before .loop in
+    let more = c .before .before .before .before .loop-test .taken in
     (omega (arith, more, l .inv .1, s .pre .1 .1 .1), from-pos _ (s .pre .1 .0 (l .q) (omega (arith, more, few-units (s .args .b .now) (s .args .sheet) (s .pre .0)))))
 
 add-q : tie.Need-add-q Inv-loop μ-loop
@@ -78,16 +78,16 @@ loop-less c = search needs
 
 loop-again : tie.Need-loop-again Inv-loop μ-loop
 loop-again c =
-    let s = c .before .before .before .before .before .before .before .before .before .before .before .before .before in
-    let l = c .before .before .before .before .before .before .before .before .before .loop in
+    let s = c .before .before .before .before .before .before .before .before .before .before .before .before in
+    let l = c .before .before .before .before .before .before .before .before .loop in
     let b = s .args .b .now in
-    let more = c .before .before .before .before .before .before .before .before .loop-test .taken in
+    let more = c .before .before .before .before .before .before .before .loop-test .taken in
     let few : l .q < 8 = omega (arith, more, few-units b (s .args .sheet) (s .pre .0)) in
-    let unit = c .before .before .before .before .before .before .before .unit-of in
+    let unit = c .before .before .before .before .before .before .unit-of in
     let idle = c .before .before .before .before .before .idle-of in
-    let is = unit-figures b (s .args .sheet) (s .pre .0) (s .args .t4) (s .pre .1 .1 .0) (l .q) (s .args .t3) (s .pre .1 .0) few (unit .result) (unit .ensures) (idle .result) (idle .ensures) in
+    let is = unit-figures b (s .args .sheet) (s .pre .0) (s .args .t4) (s .pre .1 .1 .0) (l .q) (s .args .t3 .lines) (s .pre .1 .0) few (unit .result) (unit .ensures) (idle .result) (idle .ensures) in
     let next = laid-more unit-bytes 7 (λ a. refl) (plan-unit (sheet-of b) (starts-in b)) (s .args .out .now) (s .args .at) (l .q) (l .out) (c .before .before .write-unit .last .0)
-    (record { unit = unit .result; line = natAbs (cycles-at (s .args .t3) (l .q)); idle = idle .result }) (l .inv .2) is (c .before .before .write-unit .ensures) in
+    (record { unit = unit .result; line = natAbs (cycles-at (s .args .t3 .lines) (l .q)); idle = idle .result }) (l .inv .2) is (c .before .before .write-unit .ensures) in
     (omega (arith, more), ap length (c .before .before .write-unit .ensures) ∙ length-laid (l .out) (s .args .at + 7 * l .q) _ ∙ l .inv .1, next)
 
 same-length : tie.Need-same-length Inv-loop μ-loop
@@ -109,12 +109,12 @@ write-units-spec =
     loop-holds
     unit-of-requires
     mul-idle-of
-    element-copy-out-idle-of
+    array-read-idle-of
     idle-of-requires
     mul-write-unit
     add-write-unit
     mul-write-unit-2
-    array-copy-out-write-unit
+    element-copy-out-write-unit
     write-unit-requires
     add-q
     loop-less

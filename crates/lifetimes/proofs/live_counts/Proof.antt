@@ -24,12 +24,12 @@ use Rattle.lifetimes.proofs.live_counts.Statement.{statement}
 use Rattle.lifetimes.proofs.live_counts.Tie as tie
 
 abbrev Inv-loop : tie.InvT-loop
-Inv-loop b sheet longest nodes fold counts₀ turns₀ t₀ rest₀ x₀ counts turns t rest x =
+Inv-loop b sheet waited nodes fold counts₀ turns₀ t₀ rest₀ x₀ counts turns t rest x =
     (x ≤ sheet .nodes) × (turns ≡ rounds-of b x) × (length counts ≡ 32) × Underway b (sheet .fold) x t rest counts
 
 -- turns that are left: one for each node, and one for each cycle of its rest
 abbrev μ-loop : tie.MeasureT-loop
-μ-loop b sheet longest nodes fold counts₀ turns₀ t₀ rest₀ x₀ counts turns t rest x = (sheet .nodes - x) * 33 + rest
+μ-loop b sheet waited nodes fold counts₀ turns₀ t₀ rest₀ x₀ counts turns t rest x = (sheet .nodes - x) * 33 + rest
 
 cast-nodes : tie.Need-cast-nodes Inv-loop μ-loop
 cast-nodes c = search needs
@@ -107,29 +107,21 @@ next c =
 mul-wait : tie.Need-mul-wait Inv-loop μ-loop
 mul-wait c = search needs
 
-array-copy-out-wait : tie.Need-array-copy-out-wait Inv-loop μ-loop
-array-copy-out-wait c =
+element-copy-out-wait : tie.Need-element-copy-out-wait Inv-loop μ-loop
+element-copy-out-wait c =
     let s = c .before .before .before .before .before in
     omega (arith, next c, few-nodes (s .args .b .now) (s .args .sheet) (s .pre .0))
 
 -- the next node's longest wait
 waits : (c : tie.After-wait Inv-loop μ-loop) →
     let s = c .before .before .before .before .before .before .args in
-    cycles-at (s .t3) (c .before .before .before .loop .x) ≡ pos (wait-of (s .b .now) (c .before .before .before .loop .x))
+    cycles-at (s .t3 .longest) (c .before .before .before .loop .x) ≡ pos (wait-of (s .b .now) (c .before .before .before .loop .x))
 waits c =
     let s = c .before .before .before .before .before .before in
-    wait-so (s .args .b .now) (s .args .sheet) (s .pre .0) (s .pre .1 .0) (s .args .t3) (s .pre .1 .1) (c .before .before .before .loop .x) (next (c .before))
+    wait-so (s .args .b .now) (s .args .sheet) (s .pre .0) (s .pre .1 .0) (s .args .t3 .longest) (s .pre .1 .1) (c .before .before .before .loop .x) (next (c .before))
 
-first-live-requires : tie.Need-first-live-requires Inv-loop μ-loop
-first-live-requires c κs = (c .before .before .before .before .before .before .pre .0, next (c .before))
-
-cast-t : tie.Need-cast-t Inv-loop μ-loop
-cast-t c = search needs
-
-rem-t : tie.Need-rem-t Inv-loop μ-loop
-rem-t c =
-    let s = c .before .before .before .before .before .before .before in
-    fold-some (s .args .b .now) (s .args .sheet) (s .pre .0) .0
+first-slot-requires : tie.Need-first-slot-requires Inv-loop μ-loop
+first-slot-requires c κs = (c .before .before .before .before .before .before .pre .0, next (c .before))
 
 rest-requires : tie.Need-rest-requires Inv-loop μ-loop
 rest-requires c κs =
@@ -180,7 +172,7 @@ loop-again-2 c =
       omega (arith, more),
       rw (turns-so c) (rounds-more b (l .x) (l .turns) (l .inv .1)),
       l .inv .2,
-      rw (c .before .before .first-live .ensures, c .before .rest .ensures, waits (c .before .before .before))
+      rw (c .before .before .first-slot .ensures, c .before .rest .ensures, waits (c .before .before .before))
           (underway-next b (s .args .sheet .fold) (n .0) (n .1) (l .x) (l .counts) (omega (arith, more, few-nodes b (s .args .sheet) (s .pre .0)))
           (all-counted b (s .args .sheet .fold) (n .0) (n .1) (l .x) (l .t) (l .rest) (l .counts) (l .inv .3) none) same),
     )
@@ -220,10 +212,8 @@ live-counts-spec =
     loop-less
     loop-again
     mul-wait
-    array-copy-out-wait
-    first-live-requires
-    cast-t
-    rem-t
+    element-copy-out-wait
+    first-slot-requires
     rest-requires
     turns-requires
     add-turns

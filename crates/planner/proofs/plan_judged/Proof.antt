@@ -27,42 +27,39 @@ sized c =
 returns : tie.Need-returns
 returns c = let s = c .before .before .before .before .before .before in planning-short (s .args .b .now) (s .args .out .now) (s .pre .fine) (c .before .switch-place .result) (sized (c .before)) (c .if1 .taken)
 
-bounds-requires : tie.Need-bounds-requires
-bounds-requires c κs = search needs
-
 retime-sheet-requires : tie.Need-retime-sheet-requires
 retime-sheet-requires c κs = search needs
 
 show-loop-requires : tie.Need-show-loop-requires
 show-loop-requires c κs =
     let timed = c .before .before .before .retime-sheet .ensures in
-    (c .before .before .before .before .before .before .before .before .before .before .before .pre, (c .before .before .before .before .bounds .ensures, (sym (timed .settled) ∙ not-true _ (c .before .if2 .taken), omega (arith, sized (c .before .before .before .before .before .before), c .before .before .before .before .before .if1 .left))))
+    (c .before .before .before .before .before .before .before .before .before .before .pre, (sym (timed .settled) ∙ not-true _ (c .before .if2 .taken), omega (arith, sized (c .before .before .before .before .before), c .before .before .before .before .if1 .left)))
 
 same-length : tie.Need-same-length
 same-length c = search needs
 
 returns-2 : tie.Need-returns-2
 returns-2 c =
-    let s = c .before .before .before .before .before .before .before .before .before .before .before .before .before .before in
+    let s = c .before .before .before .before .before .before .before .before .before .before .before .before .before in
     let timed = c .before .before .before .before .before .before .retime-sheet .ensures in
     let shown = c .before .before .show-loop in
-    planning-loop (s .args .b .now) (s .args .out .now) (s .pre .fine) (omega (arith, sized (c .before .before .before .before .before .before .before .before .before), c .before .before .before .before .before .before .before .before .if1 .left)) (sym (timed .settled) ∙ not-true _ (c .before .before .before .before .if2 .taken)) (shown .result) _ (shown .ensures)
+    planning-loop (s .args .b .now) (s .args .out .now) (s .pre .fine) (omega (arith, sized (c .before .before .before .before .before .before .before .before), c .before .before .before .before .before .before .before .if1 .left)) (sym (timed .settled) ∙ not-true _ (c .before .before .before .before .if2 .taken)) (shown .result) _ (shown .ensures)
 
 write-plan-requires : tie.Need-write-plan-requires
 write-plan-requires c κs =
     let timed = c .before .before .before .before .retime-sheet .ensures in
     let settled = not-false _ (c .before .before .if2 .left) in
-    (c .before .before .before .before .before .before .before .before .before .before .before .before .pre, (timed .started settled, (timed .rounds settled, omega (arith, sized (c .before .before .before .before .before .before .before), c .before .before .before .before .before .before .if1 .left))))
+    (c .before .before .before .before .before .before .before .before .before .before .before .pre, (timed .started settled, (timed .rounds settled, omega (arith, sized (c .before .before .before .before .before .before), c .before .before .before .before .before .if1 .left))))
 
 same-length-2 : tie.Need-same-length-2
 same-length-2 c = search needs
 
 returns-3 : tie.Need-returns-3
 returns-3 c =
-    let s = c .before .before .before .before .before .before .before .before .before .before .before .before .before .before .before in
+    let s = c .before .before .before .before .before .before .before .before .before .before .before .before .before .before in
     let timed = c .before .before .before .before .before .before .before .retime-sheet .ensures in
-    let size = c .before .before .before .before .before .before .before .before .before .before in
-    planning-done (s .args .b .now) (s .args .out .now) (s .pre .fine) (omega (arith, sized size, c .before .before .before .before .before .before .before .before .before .if1 .left)) (sym (timed .settled) ∙ not-false _ (c .before .before .before .before .before .if2 .left)) (size .switch-place .result) (sized size) _ (c .before .before .write-plan .ensures)
+    let size = c .before .before .before .before .before .before .before .before .before in
+    planning-done (s .args .b .now) (s .args .out .now) (s .pre .fine) (omega (arith, sized size, c .before .before .before .before .before .before .before .before .if1 .left)) (sym (timed .settled) ∙ not-false _ (c .before .before .before .before .before .if2 .left)) (size .switch-place .result) (sized size) _ (c .before .before .write-plan .ensures)
 
 pub plan-judged-spec : {M : Type 1} → statement M
 plan-judged-spec =
@@ -72,7 +69,6 @@ plan-judged-spec =
     cast-switch-place
     switch-place-requires
     returns
-    bounds-requires
     retime-sheet-requires
     show-loop-requires
     same-length

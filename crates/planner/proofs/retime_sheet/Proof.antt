@@ -6,6 +6,9 @@ use Rattle.planner.proofs.NetLaws.{here-wired, here-moderate, timed-she
 use Rattle.planner.proofs.retime_sheet.Statement.{statement}
 use Rattle.planner.proofs.retime_sheet.Tie as tie
 
+bounds-requires : tie.Need-bounds-requires
+bounds-requires c κs = search needs
+
 wire-run-requires : tie.Need-wire-run-requires
 wire-run-requires c κs = search needs
 
@@ -17,16 +20,18 @@ cast-retime-2 c = search needs
 
 retime-requires : tie.Need-retime-requires
 retime-requires c κs =
-    let s = c .before .before .before .before in
+    let s = c .before .before .before .before .before in
+    let r = c .before .before .before .bounds in
     let there = ap (λ (r : Run). r .at) (c .before .before .wire-run .ensures) in
     let b = s .args .b .now in
-    (here-wired b (s .args .sheet) (s .pre .0) (s .args .bounds) (s .pre .1) _ there, here-moderate b (s .args .sheet) (s .pre .0) (s .args .bounds) (s .pre .1) _ there)
+    (here-wired b (s .args .sheet) (s .pre) (r .result) (r .ensures) _ there, here-moderate b (s .args .sheet) (s .pre) (r .result) (r .ensures) _ there)
 
 returns : tie.Need-returns
 returns c =
-    let s = c .before .before .before .before .before in
-    timed-sheet (s .args .b .now) (s .args .sheet) (s .pre .0) (s .args .bounds) (s .pre .1) _ (ap (λ (r : Run). r .at) (c .before .before .before .wire-run .ensures)) (c .retime .result) (c .retime .ensures)
+    let s = c .before .before .before .before .before .before in
+    let r = c .before .before .before .before .bounds in
+    timed-sheet (s .args .b .now) (s .args .sheet) (s .pre) (r .result) (r .ensures) _ (ap (λ (r : Run). r .at) (c .before .before .before .wire-run .ensures)) (c .retime .result) (c .retime .ensures)
 
 pub retime-sheet-spec : {M : Type 1} → statement M
 retime-sheet-spec =
-    tie.close (tie.spec wire-run-requires cast-retime cast-retime-2 retime-requires returns)
+    tie.close (tie.spec bounds-requires wire-run-requires cast-retime cast-retime-2 retime-requires returns)

@@ -22,13 +22,13 @@ use Rattle.waits.proofs.waits.Statement.{statement}
 use Rattle.waits.proofs.waits.Tie as tie
 
 abbrev Inv-loop : tie.InvT-loop
-Inv-loop b sheet starts wires waits₀ longest₀ lines₀ e₀ waits longest lines e =
+Inv-loop b sheet starts wires waited₀ e₀ waited e =
     let taps = tap (sheet-of b) (start (net (sheet-of b))) in
-    (e ≤ sheet .wires) × (length waits ≡ 96) × ((k : ℕ) → k < e → cycles-at waits k ≡ pos (taps k))
-    × (length longest ≡ 48) × SoFar e (from-node b) taps 48 longest × (length lines ≡ 8) × SoFar e (from-unit b) taps 8 lines
+    (e ≤ sheet .wires) × (length (waited .waits) ≡ 96) × ((k : ℕ) → k < e → cycles-at (waited .waits) k ≡ pos (taps k))
+    × (length (waited .longest) ≡ 48) × SoFar e (from-node b) taps 48 (waited .longest) × (length (waited .lines) ≡ 8) × SoFar e (from-unit b) taps 8 (waited .lines)
 
 abbrev μ-loop : tie.MeasureT-loop
-μ-loop b sheet starts wires waits₀ longest₀ lines₀ e₀ waits longest lines e = sheet .wires - e
+μ-loop b sheet starts wires waited₀ e₀ waited e = sheet .wires - e
 
 cast-wires : tie.Need-cast-wires Inv-loop μ-loop
 cast-wires c = search needs
@@ -117,41 +117,41 @@ few c =
     let s = c .before .before .before .before .before .before .before .before .before .before .before .before .before .before in
     omega (arith, few-wires (s .args .b .now) (s .args .sheet) (s .pre .0), c .before .before .before .before .before .before .before .before .loop-test .taken)
 
-mul-waits : tie.Need-mul-waits Inv-loop μ-loop
-mul-waits c = omega (arith, few c)
+mul-wait : tie.Need-mul-wait Inv-loop μ-loop
+mul-wait c = omega (arith, few c)
 
-array-set-from-waits : tie.Need-array-set-from-waits Inv-loop μ-loop
-array-set-from-waits c = few c
-
-mul-larger : tie.Need-mul-larger Inv-loop μ-loop
-mul-larger c = search needs
-
-array-copy-out-larger : tie.Need-array-copy-out-larger Inv-loop μ-loop
-array-copy-out-larger c = omega (arith, ends (c .before .before .before .before .before .before .before) .0, ends (c .before .before .before .before .before .before .before) .2)
-
-larger-requires : tie.Need-larger-requires Inv-loop μ-loop
-larger-requires c κs = search needs
+element-set-from-wait : tie.Need-element-set-from-wait Inv-loop μ-loop
+element-set-from-wait c = few c
 
 mul-longest : tie.Need-mul-longest Inv-loop μ-loop
 mul-longest c = search needs
 
-array-set-from-longest : tie.Need-array-set-from-longest Inv-loop μ-loop
-array-set-from-longest c = omega (arith, ends (c .before .before .before .before .before .before .before .before .before) .0, ends (c .before .before .before .before .before .before .before .before .before) .2)
+element-copy-out-longest : tie.Need-element-copy-out-longest Inv-loop μ-loop
+element-copy-out-longest c = omega (arith, ends (c .before .before .before .before .before .before .before) .0, ends (c .before .before .before .before .before .before .before) .2)
 
-mul-larger-2 : tie.Need-mul-larger-2 Inv-loop μ-loop
-mul-larger-2 c = search needs
+larger-requires : tie.Need-larger-requires Inv-loop μ-loop
+larger-requires c κs = search needs
 
-array-copy-out-larger-2 : tie.Need-array-copy-out-larger-2 Inv-loop μ-loop
-array-copy-out-larger-2 c = source (c .before .before .before .before .before .before)
+mul-line : tie.Need-mul-line Inv-loop μ-loop
+mul-line c = search needs
+
+element-set-from-line : tie.Need-element-set-from-line Inv-loop μ-loop
+element-set-from-line c = omega (arith, ends (c .before .before .before .before .before .before .before .before .before) .0, ends (c .before .before .before .before .before .before .before .before .before) .2)
+
+mul-line-2 : tie.Need-mul-line-2 Inv-loop μ-loop
+mul-line-2 c = search needs
+
+element-copy-out-line : tie.Need-element-copy-out-line Inv-loop μ-loop
+element-copy-out-line c = source (c .before .before .before .before .before .before)
 
 larger-requires-2 : tie.Need-larger-requires-2 Inv-loop μ-loop
 larger-requires-2 c κs = search needs
 
-mul-lines : tie.Need-mul-lines Inv-loop μ-loop
-mul-lines c = search needs
+mul-t20 : tie.Need-mul-t20 Inv-loop μ-loop
+mul-t20 c = search needs
 
-array-set-from-lines : tie.Need-array-set-from-lines Inv-loop μ-loop
-array-set-from-lines c = source (c .before .before .before .before .before .before .before .before)
+element-set-from-waited : tie.Need-element-set-from-waited Inv-loop μ-loop
+element-set-from-waited c = source (c .before .before .before .before .before .before .before .before)
 
 add-e : tie.Need-add-e Inv-loop μ-loop
 add-e c = omega (arith, few (c .before .before .before .before))
@@ -176,13 +176,13 @@ loop-again c =
     wait .ensures ∙ rw (wire .ensures) (wait-is-tap b (s .args .sheet) (s .pre .0) (s .args .t3) (s .pre .1) (l .e) more) in (
       omega (arith, more),
       simp length-set (l .inv .1),
-      filled-more (λ (x : Cycles). x .0) zero (λ k. pos (taps k)) (l .e) (l .waits) (wait .result) (omega (arith, few (c .before .before .before .before), l .inv .1)) (l .inv .2) is,
+      filled-more (λ (x : Cycles). x .0) zero (λ k. pos (taps k)) (l .e) (l .waited .waits) (wait .result) (omega (arith, few (c .before .before .before .before), l .inv .1)) (l .inv .2) is,
       simp length-set (l .inv .3),
-      rw (wire .ensures) (longest-more (l .e) (from-node b) taps 48 (l .longest) (l .inv .3) (l .inv .4) inside
-          (getD (l .longest) (from-node b (l .e)) zero) (c .before .before .larger .result) (wait .result) refl is (rw (wire .ensures) at (c .before .before .larger .ensures))),
+      rw (wire .ensures) (longest-more (l .e) (from-node b) taps 48 (l .waited .longest) (l .inv .3) (l .inv .4) inside
+          (getD (l .waited .longest) (from-node b (l .e)) zero) (c .before .before .larger .result) (wait .result) refl is (rw (wire .ensures) at (c .before .before .larger .ensures))),
       simp length-set (l .inv .5),
-      rw (node .ensures, wire .ensures) (longest-more (l .e) (from-unit b) taps 8 (l .lines) (l .inv .5) (l .inv .6) (rw (node .ensures, wire .ensures) at (source (c .before .before .before .before .before .before .before .before)))
-          (getD (l .lines) (from-unit b (l .e)) zero) (c .larger2 .result) (wait .result) refl is (rw (node .ensures, wire .ensures) at (c .larger2 .ensures))),
+      rw (node .ensures, wire .ensures) (longest-more (l .e) (from-unit b) taps 8 (l .waited .lines) (l .inv .5) (l .inv .6) (rw (node .ensures, wire .ensures) at (source (c .before .before .before .before .before .before .before .before)))
+          (getD (l .waited .lines) (from-unit b (l .e)) zero) (c .larger2 .result) (wait .result) refl is (rw (node .ensures, wire .ensures) at (c .larger2 .ensures))),
     )
 
 returns : tie.Need-returns Inv-loop μ-loop
@@ -217,18 +217,18 @@ waits-spec =
     mul-wait-of-2
     array-copy-out-wait-of-2
     wait-of-requires
-    mul-waits
-    array-set-from-waits
-    mul-larger
-    array-copy-out-larger
-    larger-requires
+    mul-wait
+    element-set-from-wait
     mul-longest
-    array-set-from-longest
-    mul-larger-2
-    array-copy-out-larger-2
+    element-copy-out-longest
+    larger-requires
+    mul-line
+    element-set-from-line
+    mul-line-2
+    element-copy-out-line
     larger-requires-2
-    mul-lines
-    array-set-from-lines
+    mul-t20
+    element-set-from-waited
     add-e
     loop-less
     loop-again

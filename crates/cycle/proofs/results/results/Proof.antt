@@ -16,10 +16,10 @@ use Rattle.cycle.proofs.results.results.Tie as tie
 
 shared-slice-read-t : tie.Need-shared-slice-read-t
 unfolding size
-shared-slice-read-t c = omega (arith, c .before .before .before .before .pre .0 .room)
+shared-slice-read-t c = omega (arith, c .before .before .before .before .before .pre .0 .room)
 
 slot-at-requires : tie.Need-slot-at-requires
-slot-at-requires c κs = let s = c .before .before .before .before in turns (s .args .plan .now) (s .args .p) (s .pre .0 .taken)
+slot-at-requires c κs = let s = c .before .before .before .before .before in turns (s .args .plan .now) (s .args .p) (s .pre .0 .taken)
 
 inputs-in-requires : tie.Need-inputs-in-requires
 inputs-in-requires c κs = search needs
@@ -29,7 +29,7 @@ results-in-requires c κs = search needs
 
 returns : tie.Need-returns
 returns c =
-    let s = c .before .before .before .before .before .before .before in
+    let s = c .before .before .before .before .before .before .before .before in
     let b = s .args .plan .now in
     let p = s .args .p in
     let m = s .args .memory .now in

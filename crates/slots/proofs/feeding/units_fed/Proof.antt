@@ -26,7 +26,7 @@ loop-holds c = (omega arith, units-none _ _ _)
 unit-in-requires : tie.Need-unit-in-requires Inv-loop μ-loop
 unit-in-requires c κs =
     let l = c .before .before in
-    in-run unit-part _ _ (l .loop .q) (l .before .before .pre .0) (c .if1 .taken)
+    in-run unit-part _ _ (l .loop .q) (l .before .before .before .before .pre .0) (c .if1 .taken)
 
 mul-m : tie.Need-mul-m Inv-loop μ-loop
 mul-m c = search needs
@@ -34,14 +34,14 @@ mul-m c = search needs
 mul-unit-fed : tie.Need-mul-unit-fed Inv-loop μ-loop
 mul-unit-fed c = search needs
 
-array-read-unit-fed : tie.Need-array-read-unit-fed Inv-loop μ-loop
-array-read-unit-fed c = search needs
+shared-slice-read-unit-fed : tie.Need-shared-slice-read-unit-fed Inv-loop μ-loop
+shared-slice-read-unit-fed c = search needs
 
 mul-unit-fed-2 : tie.Need-mul-unit-fed-2 Inv-loop μ-loop
 mul-unit-fed-2 c = search needs
 
-array-read-unit-fed-2 : tie.Need-array-read-unit-fed-2 Inv-loop μ-loop
-array-read-unit-fed-2 c = search needs
+shared-slice-read-unit-fed-2 : tie.Need-shared-slice-read-unit-fed-2 Inv-loop μ-loop
+shared-slice-read-unit-fed-2 c = search needs
 
 add-unit-fed : tie.Need-add-unit-fed Inv-loop μ-loop
 add-unit-fed c = search needs
@@ -49,31 +49,31 @@ add-unit-fed c = search needs
 mul-unit-fed-3 : tie.Need-mul-unit-fed-3 Inv-loop μ-loop
 mul-unit-fed-3 c = search needs
 
-array-read-unit-fed-3 : tie.Need-array-read-unit-fed-3 Inv-loop μ-loop
-array-read-unit-fed-3 c = search needs
+shared-slice-read-unit-fed-3 : tie.Need-shared-slice-read-unit-fed-3 Inv-loop μ-loop
+shared-slice-read-unit-fed-3 c = search needs
 
 unit-fed-requires : tie.Need-unit-fed-requires Inv-loop μ-loop
 unit-fed-requires c κs = search needs
 
 told : (c : tie.After-unit-fed Inv-loop μ-loop) →
-    let l = c .before .before .before .before in
-    let s = l .before .before .args in
+    let l = c .before .before .before .before .before .before .before in
+    let s = l .before .before .before .before .args in
     c .unit-fed .result
-    ≡ unit-fed (units-in-run (s .b .now) (s .units) (l .loop .q) .kind) (getD (s .t3) (l .loop .q) 0) (getD (s .t4) (most-inputs * l .loop .q) 0)
-    (getD (s .t4) (most-inputs * l .loop .q + 1) 0)
+    ≡ unit-fed (units-in-run (s .b .now) (s .units) (l .loop .q) .kind) (getD (s .occupied .now) (l .loop .q) 0) (getD (s .masks .now) (most-inputs * l .loop .q) 0)
+    (getD (s .masks .now) (most-inputs * l .loop .q + 1) 0)
 told c =
-    let l = c .before .before .before .before in
-    let s = l .before .before .args in
+    let l = c .before .before .before .before .before .before .before in
+    let s = l .before .before .before .before .args in
     c .unit-fed .ensures
     ∙ ap
-    (λ (u : Unit). unit-fed (u .kind) (getD (s .t3) (l .loop .q) 0) (getD (s .t4) (most-inputs * l .loop .q) 0)
-    (getD (s .t4) (most-inputs * l .loop .q + 1) 0)) (c .before .unit-in .ensures)
+    (λ (u : Unit). unit-fed (u .kind) (getD (s .occupied .now) (l .loop .q) 0) (getD (s .masks .now) (most-inputs * l .loop .q) 0)
+    (getD (s .masks .now) (most-inputs * l .loop .q + 1) 0)) (c .before .before .before .before .unit-in .ensures)
 
 returns : tie.Need-returns Inv-loop μ-loop
 returns c =
     let u = c .before in
-    let l = u .before .before .before .before in
-    sym (units-stop _ _ _ (l .before .before .args .units .count) (l .loop .q) (u .unit-fed .result) (u .before .before .if1 .taken) (told u) (not-true _ (c .if2 .taken)))
+    let l = u .before .before .before .before .before .before .before in
+    sym (units-stop _ _ _ (l .before .before .before .before .args .units .count) (l .loop .q) (u .unit-fed .result) (u .before .before .before .before .before .if1 .taken) (told u) (not-true _ (c .if2 .taken)))
 
 add-q : tie.Need-add-q Inv-loop μ-loop
 add-q c = search needs
@@ -84,13 +84,13 @@ loop-less c = search needs
 loop-again : tie.Need-loop-again Inv-loop μ-loop
 loop-again c =
     let u = c .before in
-    let l = u .before .before .before .before in
+    let l = u .before .before .before .before .before .before .before in
     (omega arith, units-more _ _ _ (l .loop .q) (u .unit-fed .result) (l .loop .inv .1) (told u) (not-false _ (c .if2 .left)))
 
 returns-2 : tie.Need-returns-2 Inv-loop μ-loop
 returns-2 c =
     let l = c .before .before in
-    let e : l .loop .q ≡ l .before .before .args .units .count = omega arith in
+    let e : l .loop .q ≡ l .before .before .before .before .args .units .count = omega arith in
     sym (rw e at (l .loop .inv .1))
 
 pub units-fed-spec : {M : Type 1} → statement M
@@ -103,12 +103,12 @@ units-fed-spec =
     unit-in-requires
     mul-m
     mul-unit-fed
-    array-read-unit-fed
+    shared-slice-read-unit-fed
     mul-unit-fed-2
-    array-read-unit-fed-2
+    shared-slice-read-unit-fed-2
     add-unit-fed
     mul-unit-fed-3
-    array-read-unit-fed-3
+    shared-slice-read-unit-fed-3
     unit-fed-requires
     returns
     add-q

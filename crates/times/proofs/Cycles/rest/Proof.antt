@@ -1,6 +1,4 @@
--- `times::Cycles::rest` meets its contract: the count is the number. Assumes nothing.
-use mathlib.Core.Path.{ap}
-use Prim.Native.Nat.{ℕ, _%_}
+-- `times::Cycles::rest` meets its contract: the count is the number, and N what it is divided by. Assumes nothing.
 use borrow.Author.Needs.{needs}
 use Rattle.times.proofs.Cycles.rest.Statement.{statement}
 use Rattle.times.proofs.Cycles.rest.Tie as tie
@@ -8,11 +6,14 @@ use Rattle.times.proofs.Cycles.rest.Tie as tie
 count-requires : tie.Need-count-requires
 count-requires c κs = search needs
 
+divisor-requires : tie.Need-divisor-requires
+divisor-requires c κs = search needs
+
 rem-result : tie.Need-rem-result
 rem-result c = search needs
 
 returns : tie.Need-returns
-returns c = ap (λ (n : ℕ). n % c .before .args .fold) (c .count .ensures)
+returns c = cc
 
 pub rest-spec : {M : Type 1} → statement M
-rest-spec = tie.close (tie.spec count-requires rem-result returns)
+rest-spec = tie.close (tie.spec count-requires divisor-requires rem-result returns)
