@@ -23,11 +23,11 @@ use Rattle.plans.specs.Plan.{Plan, node-in, switch-in, plan-read}
 use Rattle.plans.specs.Judging.{switched, plan-feeds}
 use Rattle.cycle.specs.Cycle.{through, input-word, worked, result}
 use Rattle.memory.specs.Taken.{Taken}
-use Rattle.cycle.specs.Inputs.{last-of, Gathered, in-slot, input-place, tapped}
+use Rattle.inputs.specs.Inputs.{last-of, Gathered, in-slot, input-place, tapped}
 use Rattle.cycle.specs.Given.{node-in-slot, node-unit, given, ResultsOf}
 use Rattle.plans.proofs.WholeLaws.{nodes-so, units-so, wires-so}
 use Rattle.memory.proofs.TakenLaws.{whole-taken, judgement, few-units, switch-fine}
-use Rattle.cycle.proofs.LastLaws.{Only, last-cong, last-lowest, one-only}
+use Rattle.inputs.proofs.LastLaws.{Only, last-cong, last-lowest, one-only}
 
 -- a switch feeds an input of a unit in a slot exactly where its place is that input's
 switched-split : (p : Plan) (q v i e : ℕ) → switched p q v i e ≡ true → (switch-in p e .unit ≡ q) × (switch-in p e .slot ≡ v) × (switch-in p e .input ≡ i)

@@ -1,4 +1,3 @@
--- What a reader must believe of one cycle: a step, and what the records of a slot bring to it.
+-- What a reader must believe of one cycle: a step, and what the nodes of a slot give.
 pub mod Cycle
-pub mod Inputs
 pub mod Given

@@ -5,7 +5,7 @@ ghost use Rattle.records.specs.Answers.{reason-number};
 ghost use Rattle.memory.specs.Taken.{Taken};
 ghost use Rattle.machine.specs.Stepping.{Clearing, Stepping};
 ghost use Rattle.machine.specs.Calls.{cleared-number, stepped-number, needed-number, needed-words, Needing};
-use cycle::results::results;
+use cycle::results;
 use judging::PlanRead;
 use judging::judge;
 use memory::lines_of;

@@ -1,4 +1,4 @@
--- `planner::laying::joint_of` meets its contract: the wire's ends are read where they stand. Assumes nothing.
+-- `drawing::joint_of` meets its contract: the wire's ends are read where they stand. Assumes nothing.
 use mathlib.Core.Path.{refl}
 use borrow.Author.Needs.{needs}
 use Rattle.waits.proofs.FineLaws.{leaves-so, meets-so}

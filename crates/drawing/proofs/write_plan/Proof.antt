@@ -1,4 +1,4 @@
--- `planner::write_plan` meets its contract: header, units, nodes and switches are laid one behind the other. Assumes nothing.
+-- `drawing::write_plan` meets its contract: header, units, nodes and switches are laid one behind the other. Assumes nothing.
 use Prim.Native.Nat.{_+_, _*_, _≤_}
 use mathlib.Core.Path.{ap, _∙_}
 use native.Mathlib.Omega.{arith}

@@ -1,4 +1,4 @@
--- `planner::laying::write_switches` meets its contract: each turn lays one switch behind the last. Assumes nothing.
+-- `drawing::write_switches` meets its contract: each turn lays one switch behind the last. Assumes nothing.
 use Prim.Native.Nat.{ℕ, _+_, _-_, _*_, _≤_}
 use mathlib.Core.Path.{_≡_, refl, ap, _∙_}
 use native.Mathlib.Omega.{arith}

@@ -1,4 +1,4 @@
--- `cycle::depth_of` meets its contract: the byte is the unit's depth, which is not 0. Assumes nothing.
+-- `memory::depth_of` meets its contract: the byte is the unit's depth, which is not 0. Assumes nothing.
 use native.Mathlib.Omega.{arith}
 use Prim.Native.Nat.{ℕ, _<_}
 use mathlib.Core.Path.{sym, subst}

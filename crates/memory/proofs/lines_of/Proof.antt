@@ -1,4 +1,4 @@
--- `cycle::lines_of` meets its contract: unit q begins where the units before it end. Assumes nothing.
+-- `memory::lines_of` meets its contract: unit q begins where the units before it end. Assumes nothing.
 use Prim.Native.Nat.{ℕ, suc, _+_, _*_, _-_, _<_, _≤_}
 use mathlib.Core.Path.{_≡_, refl, ap, _∙_}
 use native.Mathlib.Omega.{arith}

@@ -1,4 +1,4 @@
--- `cycle::places_at` meets its contract: depth and line are bytes of the record. Assumes nothing.
+-- `memory::places_at` meets its contract: depth and line are bytes of the record. Assumes nothing.
 use Prim.Native.Nat.{_+_}
 use mathlib.Core.Path.{ap, _∙_}
 use native.Mathlib.Omega.{arith}

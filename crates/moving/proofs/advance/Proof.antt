@@ -1,4 +1,4 @@
--- `cycle::moving::advance` meets its contract: the first q units have moved. Assumes nothing.
+-- `moving::advance` meets its contract: the first q units have moved. Assumes nothing.
 use Prim.Native.Nat.{ℕ, _-_, _≤_}
 use mathlib.Core.Path.{_≡_, refl, sym, ap, _∙_}
 use mathlib.Core.List.{List}

@@ -1,4 +1,4 @@
--- `cycle::moving::leave` meets its contract: place P − 1 of each unit goes to the head of the output. Assumes nothing.
+-- `moving::leave` meets its contract: place P − 1 of each unit goes to the head of the output. Assumes nothing.
 use Prim.Native.Nat.{ℕ, _-_, _≤_}
 use mathlib.Core.Path.{_≡_, refl, ap}
 use mathlib.Core.List.{_++_}

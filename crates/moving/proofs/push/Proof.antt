@@ -1,4 +1,4 @@
--- `cycle::moving::push` meets its contract: the places above i have moved by one, and the new word goes first. Assumes nothing.
+-- `moving::push` meets its contract: the places above i have moved by one, and the new word goes first. Assumes nothing.
 use Prim.Native.Nat.{_-_, _≤_}
 use mathlib.Core.Path.{_≡_, subst}
 use native.Mathlib.Omega.{arith}

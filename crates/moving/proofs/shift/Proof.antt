@@ -1,4 +1,4 @@
--- `cycle::moving::shift` meets its contract: the part is put back where it was lent. Assumes nothing.
+-- `moving::shift` meets its contract: the part is put back where it was lent. Assumes nothing.
 use borrow.Author.Needs.{needs}
 use Rattle.moving.proofs.ShiftLaws.{shifted-part}
 use Rattle.moving.proofs.shift.Statement.{statement}

@@ -1,4 +1,4 @@
--- `cycle::moving::wipe` meets its contract: the first i words hold the word before, and t is 0 last. Assumes nothing.
+-- `moving::wipe` meets its contract: the first i words hold the word before, and t is 0 last. Assumes nothing.
 use Prim.Native.Nat.{ℕ, _-_, _≤_}
 use mathlib.Core.Path.{_≡_, refl, ap, _∙_}
 use mathlib.Core.List.{List, _++_}

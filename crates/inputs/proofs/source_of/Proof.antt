@@ -1,13 +1,13 @@
--- `cycle::source_of` meets its contract: the byte is the switch's source, which names a unit. Assumes nothing.
+-- `inputs::source_of` meets its contract: the byte is the switch's source, which names a unit. Assumes nothing.
 use native.Mathlib.Omega.{arith}
 use Prim.Native.Nat.{ℕ, _+_, _<_}
 use mathlib.Core.Path.{sym, subst}
 use Rattle.plans.proofs.WholeLaws.{switch-inside}
 use Rattle.memory.proofs.TakenLaws.{whole-taken}
-use Rattle.cycle.proofs.InputLaws.{source-so}
+use Rattle.inputs.proofs.InputLaws.{source-so}
 use borrow.Author.Needs.{needs}
-use Rattle.cycle.proofs.source_of.Statement.{statement}
-use Rattle.cycle.proofs.source_of.Tie as tie
+use Rattle.inputs.proofs.source_of.Statement.{statement}
+use Rattle.inputs.proofs.source_of.Tie as tie
 
 switch-place-requires : tie.Need-switch-place-requires
 switch-place-requires c κs = search needs

@@ -1,12 +1,12 @@
--- `cycle::results::node_of` meets its contract: record x of the run is node x. Assumes nothing.
+-- `cycle::node_of` meets its contract: record x of the run is node x. Assumes nothing.
 use mathlib.Core.Path.{sym, ap, _∙_}
 use native.Mathlib.Omega.{arith}
 use Rattle.plans.specs.Plan.{PlanNode}
 use Rattle.plans.proofs.WholeLaws.{node-inside, node-so}
 use Rattle.memory.proofs.TakenLaws.{whole-taken}
 use borrow.Author.Needs.{needs}
-use Rattle.cycle.proofs.results.node_of.Statement.{statement}
-use Rattle.cycle.proofs.results.node_of.Tie as tie
+use Rattle.cycle.proofs.node_of.Statement.{statement}
+use Rattle.cycle.proofs.node_of.Tie as tie
 
 node-run-requires : tie.Need-node-run-requires
 node-run-requires c κs = search needs

@@ -20,7 +20,7 @@ use Rattle.plans.specs.Plan.{Switch, unit-in, node-in, switch-in, plan-read}
 use Rattle.plans.proofs.JudgingLaws.{longest-tap-ge}
 use Rattle.memory.specs.Memory.{base, size}
 use Rattle.memory.specs.Taken.{Taken, LinesAt}
-use Rattle.cycle.specs.Inputs.{Begins, last-of, Gathered, input-place, tapped-place}
+use Rattle.inputs.specs.Inputs.{Begins, last-of, Gathered, input-place, tapped-place}
 use Rattle.plans.proofs.WholeLaws.{units-so, wires-so, switch-so}
 use Rattle.memory.proofs.LineLaws.{depth-so}
 use Rattle.memory.proofs.TakenLaws.{whole-taken, few-units, switch-fine, line-so}

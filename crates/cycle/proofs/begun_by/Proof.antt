@@ -1,4 +1,4 @@
--- `cycle::results::begun_by` meets its contract: the start rule, then the op. Assumes nothing.
+-- `cycle::begun_by` meets its contract: the start rule, then the op. Assumes nothing.
 use mathlib.Core.Path.{refl, sym, _∙_}
 use native.Mathlib.Omega.{arith}
 use mir.Syntax.{w16}
@@ -9,8 +9,8 @@ use Rattle.plans.proofs.WholeLaws.{node-inside}
 use Rattle.memory.proofs.TakenLaws.{whole-taken}
 use Rattle.cycle.proofs.GivenLaws.{turns, below-start}
 use borrow.Author.Needs.{needs}
-use Rattle.cycle.proofs.results.begun_by.Statement.{statement}
-use Rattle.cycle.proofs.results.begun_by.Tie as tie
+use Rattle.cycle.proofs.begun_by.Statement.{statement}
+use Rattle.cycle.proofs.begun_by.Tie as tie
 
 k-held : (c : tie.Start) → SFits w16 (c .args .n .k)
 k-held c = search needs

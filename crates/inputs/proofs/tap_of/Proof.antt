@@ -1,4 +1,4 @@
--- `cycle::tap_of` meets its contract: the two bytes are the switch's tap. Assumes nothing.
+-- `inputs::tap_of` meets its contract: the two bytes are the switch's tap. Assumes nothing.
 use native.Mathlib.Omega.{arith}
 use mathlib.Core.Path.{sym, ap, _∙_}
 use lib.IntN.{pos}
@@ -6,8 +6,8 @@ use Rattle.plans.specs.Plan.{Switch}
 use Rattle.plans.proofs.WholeLaws.{switch-inside, switch-so}
 use Rattle.memory.proofs.TakenLaws.{whole-taken}
 use borrow.Author.Needs.{needs}
-use Rattle.cycle.proofs.tap_of.Statement.{statement}
-use Rattle.cycle.proofs.tap_of.Tie as tie
+use Rattle.inputs.proofs.tap_of.Statement.{statement}
+use Rattle.inputs.proofs.tap_of.Tie as tie
 
 switch-place-requires : tie.Need-switch-place-requires
 switch-place-requires c κs = search needs

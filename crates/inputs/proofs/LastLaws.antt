@@ -12,7 +12,7 @@ use Rattle.words.specs.Loops.{count, lowest, some-of}
 use Rattle.words.proofs.LoopLaws.{passed?, lowest-none, lowest-hit}
 use Rattle.words.proofs.FaultLaws.{none-of}
 use Rattle.words.proofs.CountLaws.{some-found, count-two}
-use Rattle.cycle.specs.Inputs.{last-of}
+use Rattle.inputs.specs.Inputs.{last-of}
 
 pub last-cong : (n : ℕ) (p q : ℕ → Bool) (f : ℕ → ℕ) → ((i : ℕ) → i < n → p i ≡ q i) → last-of n p f ≡ last-of n q f
 unfolding last-of

@@ -1,4 +1,4 @@
--- `cycle::results::results_in` meets its contract: what each node of the slot gives goes to its unit. Assumes nothing.
+-- `cycle::results_in` meets its contract: what each node of the slot gives goes to its unit. Assumes nothing.
 use Prim.Native.Nat.{ℕ, _+_, _-_, _%_, _<_, _≤_}
 use mathlib.Core.Path.{_≡_, refl, sym, ap, _∙_, subst}
 use mathlib.Core.Logic.{⊎-elim}
@@ -10,12 +10,12 @@ use borrow.Author.Needs.{needs}
 use Rattle.records.specs.declared.Node.{Node}
 use Rattle.records.specs.Units.{k-fits}
 use Rattle.plans.specs.Plan.{node-in, plan-read}
-use Rattle.cycle.specs.Inputs.{last-of, Gathered}
+use Rattle.inputs.specs.Inputs.{last-of, Gathered}
 use Rattle.cycle.specs.Given.{node-in-slot, node-unit, given}
-use Rattle.cycle.proofs.InputLaws.{gathered-in, gathered-past}
+use Rattle.inputs.proofs.InputLaws.{gathered-in, gathered-past}
 use Rattle.cycle.proofs.GivenLaws.{turns, k-taken, unit-few, slot-so, given-is}
-use Rattle.cycle.proofs.results.results_in.Statement.{statement}
-use Rattle.cycle.proofs.results.results_in.Tie as tie
+use Rattle.cycle.proofs.results_in.Statement.{statement}
+use Rattle.cycle.proofs.results_in.Tie as tie
 
 abbrev Inv-loop : tie.InvT-loop
 Inv-loop plan p samples t words slot nodes results₀ x₀ results x =

@@ -1,4 +1,4 @@
--- `cycle::inputs_in` meets its contract: what each switch of the slot reads goes to its input. Assumes nothing.
+-- `inputs::inputs_in` meets its contract: what each switch of the slot reads goes to its input. Assumes nothing.
 use native.Mathlib.Omega.{arith}
 use Prim.Native.Nat.{ℕ, _+_, _-_, _≤_}
 use mathlib.Core.Path.{_≡_, refl, sym, ap, _∙_, subst}
@@ -8,14 +8,14 @@ use lib.Dec.{eqb}
 use lib.ListN.{length, set, length-set, getD-replicate}
 use borrow.Author.Tests.{eq-eqb, ne-eqb}
 use Rattle.plans.specs.Heads.{joint-at}
-use Rattle.cycle.proofs.InputLaws.{gathered-in, gathered-past, source-begins, joint-so}
+use Rattle.inputs.proofs.InputLaws.{gathered-in, gathered-past, source-begins, joint-so}
 use Rattle.plans.specs.Plan.{plan-read}
-use Rattle.cycle.specs.Inputs.{last-of, Gathered, in-slot, input-place, tapped}
+use Rattle.inputs.specs.Inputs.{last-of, Gathered, in-slot, input-place, tapped}
 use Rattle.plans.proofs.WholeLaws.{switch-inside}
 use Rattle.memory.proofs.TakenLaws.{whole-taken, few-units, few-wires}
 use borrow.Author.Needs.{needs}
-use Rattle.cycle.proofs.inputs_in.Statement.{statement}
-use Rattle.cycle.proofs.inputs_in.Tie as tie
+use Rattle.inputs.proofs.inputs_in.Statement.{statement}
+use Rattle.inputs.proofs.inputs_in.Tie as tie
 
 abbrev Inv-loop : tie.InvT-loop
 Inv-loop plan p lines memory slot wires words₀ e₀ words e =

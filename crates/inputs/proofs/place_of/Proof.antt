@@ -1,15 +1,15 @@
--- `cycle::place_of` meets its contract: what it read of the plan makes the place, which lies in the memory. Assumes nothing.
+-- `inputs::place_of` meets its contract: what it read of the plan makes the place, which lies in the memory. Assumes nothing.
 use Prim.Native.Nat.{_+_, _<_}
 use mathlib.Core.Path.{_≡_}
 use native.Mathlib.Omega.{arith}
 use Rattle.words.proofs.Ints.{from-pos}
 use Rattle.plans.specs.Plan.{plan-read}
 use Rattle.memory.specs.Memory.{size}
-use Rattle.cycle.specs.Inputs.{tapped-place}
-use Rattle.cycle.proofs.InputLaws.{place-read}
+use Rattle.inputs.specs.Inputs.{tapped-place}
+use Rattle.inputs.proofs.InputLaws.{place-read}
 use borrow.Author.Needs.{needs}
-use Rattle.cycle.proofs.place_of.Statement.{statement}
-use Rattle.cycle.proofs.place_of.Tie as tie
+use Rattle.inputs.proofs.place_of.Statement.{statement}
+use Rattle.inputs.proofs.place_of.Tie as tie
 
 source-of-requires : tie.Need-source-of-requires
 source-of-requires c κs = search needs

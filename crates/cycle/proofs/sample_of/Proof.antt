@@ -1,11 +1,11 @@
--- `cycle::results::sample_of` meets its contract: a channel is one of sixteen. Assumes nothing.
+-- `cycle::sample_of` meets its contract: a channel is one of sixteen. Assumes nothing.
 use mathlib.Core.Path.{ap}
 use native.Mathlib.Omega.{arith}
 use Rattle.records.specs.Records.{at}
 use Rattle.records.proofs.NodeLaws.{channel-below}
 use borrow.Author.Needs.{needs}
-use Rattle.cycle.proofs.results.sample_of.Statement.{statement}
-use Rattle.cycle.proofs.results.sample_of.Tie as tie
+use Rattle.cycle.proofs.sample_of.Statement.{statement}
+use Rattle.cycle.proofs.sample_of.Tie as tie
 
 channel-requires : tie.Need-channel-requires
 channel-requires c κs = search needs

@@ -1,9 +1,9 @@
--- `cycle::tapped` meets its contract: what stands at that place is what the switch reads. Assumes nothing.
+-- `inputs::tapped` meets its contract: what stands at that place is what the switch reads. Assumes nothing.
 use mathlib.Core.Path.{ap}
 use Rattle.records.specs.Records.{at}
 use borrow.Author.Needs.{needs}
-use Rattle.cycle.proofs.tapped.Statement.{statement}
-use Rattle.cycle.proofs.tapped.Tie as tie
+use Rattle.inputs.proofs.tapped.Statement.{statement}
+use Rattle.inputs.proofs.tapped.Tie as tie
 
 place-of-requires : tie.Need-place-of-requires
 place-of-requires c κs = search needs

@@ -1,18 +1,18 @@
--- `cycle::results::results` meets its contract: one node runs in each slot and one switch feeds each input. Assumes nothing.
+-- `cycle::results` meets its contract: one node runs in each slot and one switch feeds each input. Assumes nothing.
 use Prim.Native.Nat.{ℕ, _%_}
 use mathlib.Core.Path.{ap, _∙_, subst}
 use native.Mathlib.Omega.{arith}
 use Rattle.records.specs.Records.{at}
 use Rattle.plans.specs.Plan.{plan-read}
 use Rattle.memory.specs.Memory.{size}
-use Rattle.cycle.specs.Inputs.{Gathered, in-slot, input-place, tapped}
+use Rattle.inputs.specs.Inputs.{Gathered, in-slot, input-place, tapped}
 use Rattle.plans.proofs.WholeLaws.{folds-so}
 use Rattle.memory.proofs.TakenLaws.{whole-taken}
 use Rattle.cycle.proofs.GivenLaws.{turns}
 use Rattle.cycle.proofs.ResultLaws.{results-so}
 use borrow.Author.Needs.{needs}
-use Rattle.cycle.proofs.results.results.Statement.{statement}
-use Rattle.cycle.proofs.results.results.Tie as tie
+use Rattle.cycle.proofs.results.Statement.{statement}
+use Rattle.cycle.proofs.results.Tie as tie
 
 shared-slice-read-t : tie.Need-shared-slice-read-t
 unfolding size

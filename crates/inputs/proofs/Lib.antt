@@ -1,0 +1,3 @@
+-- Laws.
+pub mod LastLaws
+pub mod InputLaws
