@@ -4,7 +4,6 @@ use libc::STDIN_FILENO;
 use libc::STDOUT_FILENO;
 use listings::listing;
 use plans::Plan;
-use scripts::reading::part;
 use sheets::Sheet;
 use text::Texted;
 
@@ -21,9 +20,16 @@ const PLAN: usize = Plan::HEADER
     + Plan::NODE * Sheet::MOST_NODES
     + Plan::SWITCH * Sheet::MOST_WIRES;
 
-fn print(text: &[u8], answer: Texted) {
+// The first n bytes of a text.
+fn print(text: &[u8], n: usize) {
+    if n <= text.len() {
+        io::write_all(STDOUT_FILENO, &text[..n]);
+    }
+}
+
+fn print_answer(text: &[u8], answer: Texted) {
     if let Texted::Done(n) = answer {
-        io::write_all(STDOUT_FILENO, part(text, 0, n));
+        print(text, n);
     }
 }
 
@@ -33,5 +39,5 @@ fn main() {
     let mut out = [0u8; Texted::LONGEST];
     let n = io::read_full(STDIN_FILENO, &mut sheet);
     let answer = listing(&sheet[..n], &mut plan, &mut out);
-    print(&out, answer);
+    print_answer(&out, answer);
 }
