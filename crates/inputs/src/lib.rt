@@ -7,7 +7,6 @@ ghost use Rattle.plans.specs.Plan.{switch-in, plan-read};
 ghost use Rattle.memory.specs.Taken.{Taken, Ready};
 ghost use Rattle.inputs.specs.Inputs.{Begins, Gathered, in-slot, input-place, tapped-place, tapped};
 ghost use Rattle.memory.specs.Memory.{size};
-
 use memory::depth_of;
 use plans::Plan;
 use times::Cycles;
