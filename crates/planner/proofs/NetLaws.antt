@@ -16,8 +16,9 @@ use Rattle.sheets.proofs.HeldLaws.{units-said, nodes-said, wires-said}
 use Rattle.folding.specs.Walks.{Net, foldable}
 use Rattle.folding.specs.Folding.{net, bound}
 use Rattle.folding.proofs.AlikeLaws.{Alike, foldable-cong, chain-cong, starts-cong}
-use Rattle.rounds.specs.declared.Retimed.{Retimed}
-use Rattle.rounds.specs.Rounds.{bytes-net, Wired, Moderate, Timed}
+use Rattle.starts.specs.declared.Retimed.{Retimed}
+use Rattle.rounds.specs.Rounds.{bytes-net, Wired, Moderate}
+use Rattle.starts.specs.Starts.{Timed}
 use Rattle.rounds.proofs.SheetNet.{sheet-alike, sheet-wired, sheet-moderate}
 use Rattle.waits.specs.Fine.{Fine}
 use Rattle.waits.proofs.FineLaws.{passed-so, nodes-so}

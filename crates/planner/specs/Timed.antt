@@ -6,7 +6,7 @@ use Prim.Native.Nat.{ℕ}
 use Rattle.sheets.specs.Sheet.{sheet-of}
 use Rattle.folding.specs.Walks.{foldable, chain}
 use Rattle.folding.specs.Folding.{net}
-use Rattle.rounds.specs.declared.Retimed.{Retimed}
+use Rattle.starts.specs.declared.Retimed.{Retimed}
 use Rattle.waits.specs.Fine.{Started}
 
 -- whether the sheet folds, and where it does its chain and its starts

@@ -4,17 +4,16 @@ use mathlib.Core.Path.{_≡_}
 use mathlib.Core.Bool.{true}
 use mathlib.Core.List.{List}
 use Prim.Native.Nat.{ℕ, _+_, _*_, _<_, _≤_}
-use lib.ListN.{length, getD}
-use lib.IntN.{ℤ, pos, negsuc, _-ℤ_}
+use lib.ListN.{length}
+use lib.IntN.{ℤ, pos, negsuc}
 use lib.Signed.{_≤ℤ_}
 use Rattle.times.specs.declared.Iterations.{Iterations}
 use Rattle.words.specs.Loops.{tab}
 use Rattle.times.specs.Times.{iterations-at}
 use Rattle.records.specs.Records.{most-nodes, most-wires}
 use Rattle.sheets.specs.Sheet.{sheet-format, wire-at, most-delays}
-use Rattle.folding.specs.Walks.{Net, chain, foldable, latest, deepest, start}
+use Rattle.folding.specs.Walks.{Net, chain, foldable, latest}
 use Rattle.rounds.specs.declared.Settled.{Settled}
-use Rattle.rounds.specs.declared.Retimed.{Retimed}
 
 -- the totals of the first n nodes
 abbrev pub row-of : ℕ → List Iterations → List ℤ
@@ -50,13 +49,3 @@ pub record Settling (g : Net) (r : Settled) : Type 0 where
   pub settled : r .settled ≡ foldable g
   pub rounds : foldable g ≡ true → r .rounds ≡ chain g
   pub totals : foldable g ≡ true → row-of (g .nodes) (r .totals) ≡ latest g
-
--- "One constant is added to all values so that the smallest is 0": node u of the first n of the totals d, none of which is above 0
-abbrev pub shifted : List ℤ → ℕ → ℕ → ℤ
-shifted d n u = getD d u (pos 0) -ℤ deepest d n
-
--- whether the net folds, and where it does the chain and every node's start
-pub record Timed (g : Net) (r : Retimed) : Type 0 where
-  pub settled : r .settled ≡ foldable g
-  pub rounds : foldable g ≡ true → r .rounds ≡ chain g
-  pub starts : foldable g ≡ true → (u : ℕ) → u < g .nodes → iterations-at (r .starts) u ≡ pos (start g u)

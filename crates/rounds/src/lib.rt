@@ -2,16 +2,12 @@
 // alone, so that after k rounds it is the least over walks of at most k wires, and the rounds counted until nothing changes are the
 // chain. Assumes nothing.
 ghost use mathlib.Core.Path.{_≡_};
-ghost use Prim.Native.Nat.{ℕ, _+_, _*_, _<_, _≤_};
+ghost use Prim.Native.Nat.{ℕ, _+_, _*_, _<_};
 ghost use lib.ListN.{length, getD};
 ghost use lib.IntN.{pos};
-ghost use mir.Syntax.{w32};
-ghost use mir.Val.{SFits};
 ghost use Rattle.times.specs.Times.{iterations-at};
-ghost use Rattle.records.specs.Records.{most-nodes};
 ghost use Rattle.sheets.specs.Sheet.{sheet-format};
-ghost use Rattle.folding.specs.Walks.{deepest};
-ghost use Rattle.rounds.specs.Rounds.{row-of, bytes-net, Wired, Moderate, Settling, shifted, Timed};
+ghost use Rattle.rounds.specs.Rounds.{bytes-net, Wired, Moderate, Settling};
 use sheets::Sheet;
 use times::Iterations;
 
@@ -47,13 +43,6 @@ impl Settled {
             settled,
         }
     }
-}
-
-// The latest retiming: starts, and the rounds that it took.
-pub struct Retimed {
-    pub starts: [Iterations; Layout::NODES],
-    pub rounds: u8,
-    pub settled: bool,
 }
 
 pub fn wide(x: u8) -> usize
@@ -116,66 +105,4 @@ pub fn settle(
         k += 1;
     }
     Settled::new(totals, k as u8, k < nodes)
-}
-
-// The least of the first totals, none of which is above 0.
-fn deepest(totals: [Iterations; Layout::NODES], nodes: usize) -> Iterations
-    requires { ⌜ nodes ≤ most-nodes ⌝ }
-    ensures { λ r. ⌜ r .0 ≡ deepest (row-of nodes totals) nodes ⌝ }
-{
-    let mut least = Iterations::zero();
-    let mut u = 0;
-    while u < nodes {
-        let total = totals[u];
-        least = least.lesser(total);
-        u += 1;
-    }
-    least
-}
-
-// One constant is added to all totals so that the smallest is 0.
-pub fn starts(totals: [Iterations; Layout::NODES], nodes: usize) -> [Iterations; Layout::NODES]
-    requires { ⌜ nodes ≤ most-nodes ⌝ }
-    requires { ⌜ ((u : ℕ) → u < nodes → SFits w32 (shifted (row-of nodes totals) nodes u)) ⌝ }
-    ensures { λ r. ⌜ ((u : ℕ) → u < nodes → iterations-at r u ≡ shifted (row-of nodes totals) nodes u) ⌝ }
-{
-    let least = deepest(totals, nodes);
-    let made = no_totals();
-    let mut starts = made;
-    let mut u = 0;
-    while u < nodes {
-        let total = totals[u];
-        starts[u] = total.minus(least);
-        u += 1;
-    }
-    starts
-}
-
-// Rounds, and where they settle the starts; where they do not there are none.
-pub fn retime(
-    b: &[u8],
-    at: usize,
-    wires: usize,
-    nodes: usize,
-    bounds: [Iterations; Layout::WIRES],
-) -> Retimed
-    requires { ⌜ Wired (now b) at nodes wires ⌝ }
-    requires { ⌜ Moderate (bytes-net (now b) at nodes wires bounds) ⌝ }
-    ensures { λ r. ⌜ Timed (bytes-net (now (b .entry)) at nodes wires bounds) r ⌝ }
-{
-    let rows = settle(b, at, wires, nodes, bounds);
-    if !rows.settled {
-        return Retimed {
-            starts: no_totals(),
-            rounds: rows.rounds,
-            settled: false,
-        };
-    }
-    let totals = rows.totals;
-    let shifted = starts(totals, nodes);
-    Retimed {
-        starts: shifted,
-        rounds: rows.rounds,
-        settled: true,
-    }
 }

@@ -1,4 +1,4 @@
--- `rounds::starts` meets its contract: before turn u the starts of the first u nodes are made. Assumes nothing.
+-- `starts::starts` meets its contract: before turn u the starts of the first u nodes are made. Assumes nothing.
 use mathlib.Core.Path.{_≡_, _∙_}
 use Prim.Native.Nat.{ℕ, _-_, _<_, _≤_}
 use native.Mathlib.Omega.{arith}
@@ -7,10 +7,11 @@ use lib.ListN.{length, length-set}
 use lib.IntN.{_-ℤ_}
 use Rattle.times.specs.Times.{iterations-at}
 use Rattle.records.specs.Records.{most-nodes}
-use Rattle.rounds.specs.Rounds.{row-of, shifted}
-use Rattle.rounds.proofs.ShiftLaws.{filled-more, shift-at}
-use Rattle.rounds.proofs.starts.Statement.{statement}
-use Rattle.rounds.proofs.starts.Tie as tie
+use Rattle.rounds.specs.Rounds.{row-of}
+use Rattle.starts.specs.Starts.{shifted}
+use Rattle.starts.proofs.ShiftLaws.{filled-more, shift-at}
+use Rattle.starts.proofs.starts.Statement.{statement}
+use Rattle.starts.proofs.starts.Tie as tie
 
 abbrev Inv-loop : tie.InvT-loop
 Inv-loop nodes totals least starts₀ u₀ starts u =

@@ -1,13 +1,13 @@
--- `rounds::deepest` meets its contract: before turn u it has the least of the first u totals. Assumes nothing.
+-- `starts::deepest` meets its contract: before turn u it has the least of the first u totals. Assumes nothing.
 use mathlib.Core.Path.{_≡_}
 use Prim.Native.Nat.{_-_, _≤_}
 use native.Mathlib.Omega.{arith}
 use borrow.Author.Needs.{needs}
 use Rattle.folding.specs.Walks.{deepest}
 use Rattle.rounds.specs.Rounds.{row-of}
-use Rattle.rounds.proofs.ShiftLaws.{least-more}
-use Rattle.rounds.proofs.deepest.Statement.{statement}
-use Rattle.rounds.proofs.deepest.Tie as tie
+use Rattle.starts.proofs.ShiftLaws.{least-more}
+use Rattle.starts.proofs.deepest.Statement.{statement}
+use Rattle.starts.proofs.deepest.Tie as tie
 
 abbrev Inv-loop : tie.InvT-loop
 Inv-loop nodes totals least₀ u₀ least u = (u ≤ nodes) × (least .0 ≡ deepest (row-of nodes totals) u)

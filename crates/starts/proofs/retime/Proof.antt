@@ -1,11 +1,11 @@
--- `rounds::retime` meets its contract: the settled totals are the latest row, and their starts its own. Assumes nothing.
+-- `starts::retime` meets its contract: the settled totals are the latest row, and their starts its own. Assumes nothing.
 use borrow.Author.Needs.{needs}
 use borrow.Author.Tests.{not-true, not-false}
 use Rattle.rounds.specs.Rounds.{bytes-net}
 use Rattle.rounds.proofs.RowLaws.{closed}
-use Rattle.rounds.proofs.ShiftLaws.{unsettled-timed, starts-fit, settled-timed}
-use Rattle.rounds.proofs.retime.Statement.{statement}
-use Rattle.rounds.proofs.retime.Tie as tie
+use Rattle.starts.proofs.ShiftLaws.{unsettled-timed, starts-fit, settled-timed}
+use Rattle.starts.proofs.retime.Statement.{statement}
+use Rattle.starts.proofs.retime.Tie as tie
 
 settle-requires : tie.Need-settle-requires
 settle-requires c κs = search needs

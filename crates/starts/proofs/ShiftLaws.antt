@@ -21,9 +21,10 @@ use Rattle.folding.proofs.StartLaws.{start-is, deepest-met}
 use Rattle.folding.proofs.RoundLaws.{Closed, round-nonpos}
 use Rattle.folding.proofs.SettleLaws.{round-low}
 use Rattle.records.specs.Records.{most-nodes}
-use Rattle.rounds.specs.Rounds.{row-of, shifted, Moderate, Settling, Timed}
+use Rattle.rounds.specs.Rounds.{row-of, Moderate, Settling}
+use Rattle.starts.specs.Starts.{shifted, Timed}
 use Rattle.rounds.specs.declared.Settled.{Settled}
 use Rattle.rounds.proofs.RowLaws.{high-up}
 
 pub least-more : (n u : ℕ) (l : List Iterations) (a x : Iterations) → u < n → a .0 ≡ deepest (row-of n l) u →
     x .0 ≡ cond (leZ (a .0) (iterations-at l u)) (a .0) (iterations-at l u) → x .0 ≡ deepest (row-of n l) (u + 1)
