@@ -10,10 +10,11 @@ use lib.Dec.{ltb, leb·suc-suc}
 use lib.ListN.{length, getD, drop, replicate, length-append, length-take, length-drop, length-replicate, getD-replicate, List·getD-append}
 use lib.Seq.{getD-take, getD-drop, drop-at}
 use borrow.Author.Tests.{lt-ltb, le-ltb}
+use Rattle.words.specs.Loops.{joined}
 use Rattle.records.specs.Units.{word-before}
 use Rattle.records.specs.Records.{at}
 use Rattle.plans.specs.Plan.{Plan}
-use Rattle.memory.specs.Memory.{places, base, size, blocks, place, cleared}
+use Rattle.memory.specs.Memory.{places, base, size, place, cleared}
 use Rattle.memory.proofs.BlockLaws.{base-next, length-blocks, place-blocks}
 use Rattle.cycle.specs.Cycle.{result, moved, stepped, run}
 
@@ -43,7 +44,7 @@ module _ (p : Plan) (m c : List ℕ) (room : size p ≤ length m) where
   pub rest-stepped : drop (size p) (stepped p m c) ≡ drop (size p) m
   unfolding stepped size
   rest-stepped =
-      drop-at (blocks (moved p m c) (length (p .units))) (drop (size p) m) (base p (length (p .units))) (length-blocks p (moved p m c) length-moved (length (p .units)) (omega arith))
+      drop-at (joined (length (p .units)) (moved p m c)) (drop (size p) m) (base p (length (p .units))) (length-blocks p (moved p m c) length-moved (length (p .units)) (omega arith))
 
 -- ---- a run from cleared memory
 

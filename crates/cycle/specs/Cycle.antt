@@ -7,12 +7,12 @@ use Prim.Native.Nat.{ℕ, zero, suc, _/_, _%_}
 use lib.Dec.{ltb}
 use lib.ListN.{length, take, drop}
 use lib.IntN.{natAbs}
-use Rattle.words.specs.Loops.{lowest}
+use Rattle.words.specs.Loops.{lowest, joined}
 use Rattle.records.specs.Units.{value, word-before}
 use Rattle.records.specs.Records.{at, runs-in}
 use Rattle.plans.specs.Plan.{Plan, node-in, switch-in}
 use Rattle.plans.specs.Judging.{switched}
-use Rattle.memory.specs.Memory.{places, base, size, blocks, cleared, reading}
+use Rattle.memory.specs.Memory.{places, base, size, cleared, reading}
 
 -- "all as they stood before the step", in memory m, with the channels' words c
 
@@ -45,7 +45,7 @@ moved p m c q = take (places p q) (result p m c q ∷ drop (suc (base p q)) m)
 
 -- "t rises by 1"; "Words beyond these stay."
 unfoldable pub stepped : Plan → List ℕ → List ℕ → List ℕ
-stepped p m c = suc (at m 0) ∷ (blocks (moved p m c) (length (p .units)) ++ drop (size p) m)
+stepped p m c = suc (at m 0) ∷ (joined (length (p .units)) (moved p m c) ++ drop (size p) m)
 
 -- the memory before cycle t, stepped from cleared memory on; `hand t` are the channels' words at cycle t
 unfoldable pub run : Plan → List ℕ → (ℕ → List ℕ) → ℕ → List ℕ

@@ -3,7 +3,7 @@
 use mathlib.Core.Path.{_≡_, refl, sym, ap, _∙_, subst}
 use mathlib.Core.Logic.{_↔_, _⊎_, inl, inr}
 use mathlib.Core.List.{List, [], _∷_, _++_}
-use Prim.Native.Nat.{ℕ, zero, suc, _+_, _*_, _/_, _<_, _≤_}
+use Prim.Native.Nat.{ℕ, zero, suc, _+_, _<_, _≤_}
 use native.Mathlib.Decide.{ℕ-discrete}
 use native.Mathlib.Omega.{arith}
 use lib.Dec.{ltb, lit<}
@@ -12,10 +12,10 @@ use lib.Seq.{take-at, getD-drop}
 use lib.IntN.{ℤ, pos, _+ℤ_}
 use lib.Signed.{leZ, _≤ℤ_, _<ℤ_}
 use borrow.Author.Tests.{le-leb, ltb-true, ltb-false, ne-eqb}
-use Rattle.words.specs.Loops.{tab}
+use Rattle.plans.proofs.PlanBytes.{loop-back}
 use Rattle.words.proofs.Ints.{ints, sumℤ, difℤ, up-pos, down-pos, leZ-true, leZ-false}
 use Rattle.words.proofs.LoopLaws.{passed?}
-use Rattle.records.specs.Records.{at, over}
+use Rattle.records.specs.Records.{over}
 use Rattle.sheets.specs.Sheet.{Sheet, sheet-of, sheet-fault, wire-of}
 use Rattle.sheets.specs.Sound.{Sound}
 use Rattle.sheets.proofs.SheetLaws.{passed, sound-of, counts-of, wires-is}
@@ -26,15 +26,15 @@ use Rattle.folding.specs.Latest.{Latest}
 use Rattle.folding.proofs.WaitLaws.{wait-meets, retiming-meets, meets-retiming}
 use Rattle.folding.proofs.StartLaws.{length-starts}
 use Rattle.folding.proofs.FoldingLaws.{Foldable, folds-well, loop-of, loop-leaves-none}
-use Rattle.plans.specs.Plan.{PlanNode, no-node, node-in, Switch, plan-bytes, loop-bytes, plan-read}
+use Rattle.plans.specs.Plan.{PlanNode, no-node, node-in, Switch, plan-bytes, loop-bytes, plan-read, loop-read}
 use Rattle.plans.specs.Judging.{plan-fault}
-use Rattle.plans.proofs.ConcatLaws.{tab-is, at-concat, AllBytes, bytes-concat}
+use Rattle.plans.proofs.ConcatLaws.{AllBytes, bytes-concat}
 use Rattle.drawing.specs.PlanOf.{plan-of, plan-length}
 use Rattle.planner.specs.Planning.{plan-number, answered-length, left-in, Planning}
 use Rattle.drawing.proofs.PlanLaws.{node-is, switch-is, nodes-as, plan-folds}
 use Rattle.drawing.proofs.PassedPlan.{reads-back, passes, length-written, plan-small}
 use Rattle.planner.proofs.PlanningLaws.{at-zero, at-six}
-use Rattle.demands.specs.Demands.{Bytes, WellPlanned, loop-read, Among, Demand2Met, WaitsByBounds}
+use Rattle.demands.specs.Demands.{Bytes, WellPlanned, Among, Demand2Met, WaitsByBounds}
 
 pub waits-by-bounds : WaitsByBounds
 waits-by-bounds s sound r = (retiming-meets s (sound .turns) r, meets-retiming s (sound .turns) r)
@@ -117,14 +117,6 @@ loop-proves s sound e es loop r =
       | inr l ↦ absurd (let n = loop .short in omega (ints, sumℤ (along (net s) (e ∷ es)) (r u), up-pos 0, down-pos 0))
     ]
 
--- the loop's wire numbers are read back
-loop-back : (l before : List ℕ) (len : ℕ) → len ≡ 3 * length l → loop-read len (over (loop-bytes l) before) ≡ l
-unfolding loop-bytes
-loop-back l before len h =
-    let w = loop-bytes l in
-    ap (λ (n : ℕ). tab n (λ i. at (over w before) (3 * i + 2))) (let e : len / 3 ≡ length l = omega arith in e)
-    ∙ tab-is l (λ i. at (over w before) (3 * i + 2)) 0 (λ i k. at-concat (λ (e : ℕ). 80 ∷ 87 ∷ e ∷ []) 3 (λ a. refl) l (drop (length w) before) i 2 0 k (lit< tt))
-
 -- ---- bytes
 
 bytes-join : (w m : List ℕ) → AllBytes w → Bytes m → Bytes (w ++ m)
@@ -190,7 +182,7 @@ demand-2 b before number len after bytes p = record {
   at-6 = λ six.
       let s = p .shown six in
       let j = at-six b (length before) (sym (p .number-is) ∙ six) in
-      let is : loop-read len after ≡ s .wire ∷ s .wires = ap (loop-read len) (s .left) ∙ loop-back (s .wire ∷ s .wires) before len (s .length-is) in
+      let is : loop-read len after ≡ s .wire ∷ s .wires = ap (loop-read len) (s .left) ∙ loop-back (s .wire ∷ s .wires) (drop (length (loop-bytes (s .wire ∷ s .wires))) before) len (s .length-is) in
       record {
         wire = s .wire;
         wires = s .wires;

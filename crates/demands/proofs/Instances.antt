@@ -26,7 +26,7 @@ use Rattle.words.proofs.LoopLaws.{passed?, every-at}
 use Rattle.records.specs.Units.{channels}
 use Rattle.records.specs.Records.{at, over}
 use Rattle.sheets.specs.Sheet.{sheet-of}
-use Rattle.plans.specs.Plan.{plan-bytes, loop-bytes, plan-read}
+use Rattle.plans.specs.Plan.{plan-bytes, loop-bytes, plan-read, loop-read}
 use Rattle.drawing.specs.PlanOf.{plan-of}
 use Rattle.planner.specs.Planning.{plan-number, Planning}
 use Rattle.memory.specs.Memory
@@ -34,7 +34,7 @@ use Rattle.memory.specs.Memory.{size}
 use Rattle.demands.specs.Cases
 use Rattle.demands.specs.Cases.{loop-of-two, port-and-scale}
 use Rattle.demands.specs.Running.{Handed, last-cycle, Runs}
-use Rattle.demands.specs.Demands.{Bytes, loop-read, WellPlanned, LoopProves}
+use Rattle.demands.specs.Demands.{Bytes, WellPlanned, LoopProves}
 use Rattle.demands.proofs.Worked.{worked}
 use Rattle.demands.proofs.WrongPrograms.{room, case-9-number}
 use Rattle.demands.proofs.DemandTwo.{demand-2}

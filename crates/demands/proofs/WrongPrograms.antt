@@ -83,7 +83,7 @@ unfoldable pub case-9-plan : List ℕ
 case-9-plan = plan-bytes (plan-of (sheet-of (loop-of-two 1)))
 
 pub works-at-1 : step-memory case-9-plan (1 ∷ 11 ∷ 21 ∷ 22 ∷ 23 ∷ []) (replicate 16 0) (0 ∷ 0 ∷ []) ≡ (2 ∷ 0 ∷ 4294967285 ∷ 21 ∷ 22 ∷ [])
-unfolding case-9-plan Cases.loop-of-two Memory.base Memory.size Memory.blocks Cycle.result Cycle.stepped Memory.leaving Stepping.step-number Stepping.step-memory Loops.tab Loops.every Loops.some-of Loops.total Loops.largest Loops.count Loops.lowest Loops.first Words.floor Words.residue Words.signed Words.sum Words.difference Words.scale Units.value Records.reading-fault Records.clashes Records.occupied Records.fed-once Sheet.sheet-of Sheet.sheet-faults Walks.minℤ Walks.better Walks.next Walks.row Walks.settled Walks.settles Walks.chain Walks.foldable Walks.deepest Walks.starts Folding.raw Folding.bound Folding.wait Folding.tap Lifetime.longest-wait Lifetime.falls Lifetime.live Lifetime.registers Plan.concat Plan.plan-bytes Plan.plan-read Judging.longest-tap Judging.figures-right Judging.plan-faults PlanOf.plan-of Planning.plan-number
+unfolding case-9-plan Cases.loop-of-two Memory.base Memory.size Loops.joined Cycle.result Cycle.stepped Memory.leaving Stepping.step-number Stepping.step-memory Loops.tab Loops.every Loops.some-of Loops.total Loops.largest Loops.count Loops.lowest Loops.first Words.floor Words.residue Words.signed Words.sum Words.difference Words.scale Units.value Records.reading-fault Records.clashes Records.occupied Records.fed-once Sheet.sheet-of Sheet.sheet-faults Walks.minℤ Walks.better Walks.next Walks.row Walks.settled Walks.settles Walks.chain Walks.foldable Walks.deepest Walks.starts Folding.raw Folding.bound Folding.wait Folding.tap Lifetime.longest-wait Lifetime.falls Lifetime.live Lifetime.registers Plan.concat Plan.plan-bytes Plan.plan-read Judging.longest-tap Judging.figures-right Judging.plan-faults PlanOf.plan-of Planning.plan-number
 works-at-1 = refl
 
 -- a made-up chain: walks admit one figure alone

@@ -2,11 +2,10 @@
 use mathlib.Core.Path.{_≡_}
 use mathlib.Core.Logic.{_↔_, _⊎_}
 use mathlib.Core.List.{List, [], _∷_}
-use Prim.Native.Nat.{ℕ, _+_, _*_, _/_, _%_, _<_, _≤_}
+use Prim.Native.Nat.{ℕ, _%_, _<_, _≤_}
 use lib.ListN.{length, take, drop}
 use lib.IntN.{ℤ, pos}
 use lib.Signed.{_<ℤ_}
-use Rattle.words.specs.Loops.{tab}
 use Rattle.words.specs.Words.{turn}
 use Rattle.records.specs.Units.{channels, value}
 use Rattle.records.specs.Records.{at}
@@ -16,7 +15,7 @@ use Rattle.folding.specs.Walks.{Loop, Meets}
 use Rattle.folding.specs.Latest.{Latest, IsChain}
 use Rattle.folding.specs.Folding.{net, wait, Retiming}
 use Rattle.folding.specs.Lifetime.{last-live, live, registers, waiting}
-use Rattle.plans.specs.Plan.{Plan, node-in, switch-in, loop-length, plan-read}
+use Rattle.plans.specs.Plan.{Plan, node-in, switch-in, plan-read, loop-read}
 use Rattle.plans.specs.Judging.{plan-fault}
 use Rattle.drawing.specs.Folds.{Folds}
 use Rattle.drawing.specs.PlanOf.{plan-length}
@@ -83,10 +82,6 @@ pub record WellPlanned (s : Sheet) (p : Plan) : Type 0 where
   pub taps : (e : ℕ) → e < length (s .wires) → pos (switch-in p e .tap) ≡ wait s (λ u. pos (node-in p u .start)) e
   pub registers-are : p .registers ≡ registers s (λ u. node-in p u .start)
   pub chain-is : IsChain (net s) (p .chain)
-
--- the wire numbers of the loop in the first `len` bytes of a buffer
-abbrev pub loop-read : ℕ → List ℕ → List ℕ
-loop-read len after = tab (len / loop-length) (λ i. at after (loop-length * i + 2))
 
 abbrev pub Among : (ℕ → Type 0) → List ℕ → Type 0
 Among P [] = ⊥

@@ -2,14 +2,13 @@
 ghost use mathlib.Core.Path.{_≡_};
 ghost use Prim.Native.Nat.{_+_, _^_, _<_, _≤_};
 ghost use lib.ListN.{length};
-ghost use lib.IntN.{pos};
 ghost use Rattle.plans.specs.Plan.{switch-in, plan-read};
 ghost use Rattle.memory.specs.Taken.{Taken, Ready};
 ghost use Rattle.inputs.specs.Inputs.{Begins, Gathered, in-slot, input-place, tapped-place, tapped};
 ghost use Rattle.memory.specs.Memory.{size};
 use memory::depth_of;
 use plans::Plan;
-use times::Cycles;
+use plans::tap_of;
 
 // The unit that switch e reads.
 fn source_of(plan: &[u8], p: Plan, e: usize) -> usize
@@ -18,15 +17,6 @@ fn source_of(plan: &[u8], p: Plan, e: usize) -> usize
     ensures { λ r. ⌜ (r ≡ switch-in (plan-read (now (plan .entry))) e .source) × (r < p .units) ⌝ }
 {
     plan[p.switch_place(e) + 5] as usize
-}
-
-// The tap of switch e.
-fn tap_of(plan: &[u8], p: Plan, e: usize) -> Cycles
-    requires { ⌜ Taken (now plan) p ⌝ }
-    requires { ⌜ e < p .wires ⌝ }
-    ensures { λ r. ⌜ r .0 ≡ pos (switch-in (plan-read (now (plan .entry))) e .tap) ⌝ }
-{
-    plans::tap_at(plan, p.switch_place(e))
 }
 
 // The place in memory that switch e reads; the source's places begin at `from`.

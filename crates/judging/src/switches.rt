@@ -3,15 +3,14 @@
 ghost use mathlib.Core.Path.{_≡_};
 ghost use Prim.Native.Nat.{_<_, _≤_};
 ghost use lib.ListN.{length};
-ghost use lib.IntN.{pos};
 ghost use Rattle.records.specs.Records.{most-fold, most-units};
 ghost use Rattle.records.specs.Answers.{judged};
-ghost use Rattle.plans.specs.Plan.{switch-in, plan-read};
+ghost use Rattle.plans.specs.Plan.{plan-read};
 ghost use Rattle.judging.specs.Answers.{fits-by, switch-number, switch-answer, Fronted, Occupied, InputsOf, JoinedBy};
 use plans::Joint;
 use plans::Plan;
 use plans::joint_at;
-use plans::tap_at;
+use plans::tap_of;
 use records::Unit;
 use records::reading::Judged;
 use records::reading::Reason;
@@ -96,15 +95,6 @@ fn input_of(j: Joint) -> Input
         slot: j.slot,
         input: j.input,
     }
-}
-
-// The tap of switch e.
-fn tap_of(b: &[u8], p: Plan, e: usize) -> Cycles
-    requires { ⌜ Fronted (now b) p ⌝ }
-    requires { ⌜ e < p .wires ⌝ }
-    ensures { λ r. ⌜ r .0 ≡ pos (switch-in (plan-read (now (b .entry))) e .tap) ⌝ }
-{
-    tap_at(b, p.switch_place(e))
 }
 
 // What the switches join: the masks of the inputs that they feed, and the largest tap that reads each unit; and their first fault.

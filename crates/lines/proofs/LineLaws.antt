@@ -10,7 +10,8 @@ use Rattle.plans.specs.Plan.{plan-read}
 use Rattle.plans.specs.Heads.{Whole}
 use Rattle.plans.proofs.ReadLaws.{fold-read, units-read, nodes-read, switches-read}
 use Rattle.plans.proofs.WholeLaws.{units-so, nodes-so, wires-so}
-use Rattle.lines.specs.Text.{joined, head-line, header-line, unit-lines, node-lines, switch-lines, plan-text}
+use Rattle.words.specs.Loops.{joined}
+use Rattle.lines.specs.Text.{head-line, header-line, unit-lines, node-lines, switch-lines, plan-text}
 use Rattle.numerals.specs.Wrote.{Wrote}
 use Rattle.numerals.proofs.WroteLaws.{wrote-nothing, wrote-then, within}
 

@@ -6,7 +6,8 @@ use Rattle.words.specs.Loops.{tab}
 use Rattle.words.specs.Words.{signed}
 use Rattle.plans.specs.Plan.{plan-read}
 use Rattle.numerals.specs.Numerals.{ascii, digits, decimal, named, signed-named}
-use Rattle.lines.specs.Text.{joined, head-line, unit-line, node-line, switch-line, plan-text, refused-text, loop-text}
+use Rattle.words.specs.Loops.{joined}
+use Rattle.lines.specs.Text.{head-line, unit-line, node-line, switch-line, plan-text, refused-text, loop-text}
 
 -- the bytes of case 9's plan
 abbrev pub case-9 : List ℕ

@@ -1,16 +1,12 @@
 -- The text of a plan and of a refusal: 01, "Sheets worked by hand", its end. "Fields are the plan's, in plan order." Every line ends with a
 -- line feed. Assumes nothing.
-use mathlib.Core.List.{List, [], _++_}
-use Prim.Native.Nat.{ℕ, zero, suc}
+use mathlib.Core.List.{List, _++_}
+use Prim.Native.Nat.{ℕ}
 use lib.ListN.{length}
+use Rattle.words.specs.Loops.{joined}
 use Rattle.records.specs.Records.{at}
 use Rattle.plans.specs.Plan.{Plan, PlanUnit, PlanNode, Switch, unit-in, node-in, switch-in}
 use Rattle.numerals.specs.Numerals.{ascii, field, signed-field, line-feed}
-
--- f 0, .., f (n − 1) one after the other
-unfoldable pub joined : ℕ → (ℕ → List ℕ) → List ℕ
-joined zero f = []
-joined (suc n) f = joined n f ++ f n
 
 -- ---- the lines of a plan
 

@@ -1,24 +1,22 @@
 -- What is listed is the sheet's own: at 0 the text of its plan, at 6 that of the loop shown. Assumes nothing.
 use mathlib.Core.Path.{_≡_, refl, sym, ap, _∙_}
 use mathlib.Core.List.{List, [], _∷_, append-nil}
-use Prim.Native.Nat.{ℕ, _+_, _*_}
+use Prim.Native.Nat.{ℕ}
 use native.Mathlib.Omega.{arith}
-use lib.Dec.{lit<}
 use lib.ListN.{length, take, drop}
 use lib.Seq.{take-at}
-use Rattle.words.specs.Loops.{tab}
-use Rattle.records.specs.Records.{at}
+use Rattle.plans.proofs.PlanBytes.{loop-back}
 use Rattle.sheets.specs.Sheet.{sheet-of}
 use Rattle.sheets.proofs.SheetLaws.{passed, sound-of}
 use Rattle.folding.proofs.FoldingLaws.{folds-well}
-use Rattle.plans.specs.Plan.{plan-bytes, loop-bytes, loop-wire-bytes}
-use Rattle.plans.proofs.ConcatLaws.{tab-is, length-concat, at-concat}
+use Rattle.plans.specs.Plan.{plan-bytes, loop-bytes, loop-wire-bytes, loop-read}
+use Rattle.plans.proofs.ConcatLaws.{length-concat}
 use Rattle.drawing.specs.PlanOf.{plan-of}
 use Rattle.planner.specs.Planning.{answered-length, left-in}
 use Rattle.drawing.proofs.PassedPlan.{reads-back, length-written}
 use Rattle.planner.proofs.PlanningLaws.{at-zero, length-loop}
 use Rattle.lines.specs.Text.{plan-text, loop-text}
-use Rattle.text.specs.Texting.{wires-shown, wire-at, loop-wires}
+use Rattle.text.specs.Texting.{loop-wires}
 use Rattle.listings.specs.Listing.{answer-text, Listing}
 
 -- a loop's wires are read back from its bytes
@@ -26,9 +24,7 @@ wires-back : (l : List ℕ) → loop-wires (loop-bytes l) ≡ l
 unfolding loop-bytes
 wires-back l =
     let w = loop-bytes l in
-    let long : length w ≡ 3 * length l = length-concat loop-wire-bytes 3 (λ e. refl) l in
-    ap (λ (n : ℕ). tab n (wire-at w)) (let e : wires-shown w ≡ length l = omega arith in e)
-    ∙ tab-is l (wire-at w) 0 (λ i h. ap (λ (z : List ℕ). at z (3 * i + 2)) (sym (append-nil w)) ∙ at-concat loop-wire-bytes 3 (λ e. refl) l [] i 2 0 h (lit< tt))
+    ap (loop-read (length w)) (sym (append-nil w)) ∙ loop-back l [] (length w) (length-concat loop-wire-bytes 3 (λ e. refl) l)
 
 module _ (b plan out : List ℕ) (number len : ℕ) (left after : List ℕ) (x : Listing b plan out number len left after) where
   -- "Fields are the plan's": those of the plan that the sheet has

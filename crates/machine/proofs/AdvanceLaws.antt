@@ -3,10 +3,10 @@ use mathlib.Core.Path.{_≡_, ap}
 use mathlib.Core.List.{List, _∷_, _++_}
 use Prim.Native.Nat.{ℕ, suc}
 use lib.ListN.{length, take, drop}
+use Rattle.words.proofs.LoopLaws.{joined-cong}
 use Rattle.records.specs.Records.{at}
 use Rattle.plans.specs.Plan.{Plan}
 use Rattle.memory.specs.Memory.{places, base, size}
-use Rattle.memory.proofs.BlockLaws.{blocks-cong}
 use Rattle.moving.specs.Moving.{moved-by, advanced}
 use Rattle.cycle.specs.Cycle.{moved, stepped}
 use Rattle.cycle.specs.Given.{ResultsOf}
@@ -16,4 +16,4 @@ pub advanced-so : (p : Plan) (m c r : List ℕ) → ResultsOf p m c r → advanc
 unfolding advanced stepped
 advanced-so p m c r so =
     ap (λ (k : List ℕ). suc (at m 0) ∷ (k ++ drop (size p) m))
-    (blocks-cong (moved-by p m r) (moved p m c) (length (p .units)) (λ q h. ap (λ (x : ℕ). take (places p q) (x ∷ drop (suc (base p q)) m)) (so q h)))
+    (joined-cong (length (p .units)) (moved-by p m r) (moved p m c) (λ q h. ap (λ (x : ℕ). take (places p q) (x ∷ drop (suc (base p q)) m)) (so q h)))

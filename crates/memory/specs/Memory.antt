@@ -1,5 +1,5 @@
 -- The cycle machine's memory: where its places stand, clearing, what a tap reads and what leaves. 01, "One cycle". Assumes nothing.
-use mathlib.Core.List.{List, [], _∷_, _++_}
+use mathlib.Core.List.{List, _∷_, _++_}
 use Prim.Native.Nat.{ℕ, zero, suc, _+_, _-_}
 use lib.ListN.{length, drop, replicate}
 use Rattle.words.specs.Loops.{tab}
@@ -23,11 +23,6 @@ size p = suc (base p (length (p .units)))
 -- place i of unit q: "newest first"
 abbrev pub place : Plan → List ℕ → ℕ → ℕ → ℕ
 place p m q i = at m (suc (base p q + i))
-
--- what the first n units have, one after the other
-unfoldable pub blocks : (ℕ → List ℕ) → ℕ → List ℕ
-blocks f zero = []
-blocks f (suc q) = blocks f q ++ f q
 
 -- "Clearing writes 0 to all of these."
 unfoldable pub cleared : Plan → List ℕ → List ℕ

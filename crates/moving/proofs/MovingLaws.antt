@@ -6,13 +6,13 @@ use native.Mathlib.Numerals.{add-one}
 use native.Mathlib.Omega.{arith}
 use lib.ListN.{length, getD, set, take, drop, replicate, length-drop, length-take}
 use lib.Seq.{take-at, drop-at, drop-append-add, drop-drop}
-use Rattle.words.specs.Loops.{tab}
+use Rattle.words.specs.Loops.{tab, joined}
 use Rattle.words.proofs.LoopLaws.{length-tab}
 use Rattle.records.specs.Units.{word-before}
 use Rattle.records.specs.Records.{at, over}
 use Rattle.plans.specs.declared.Plan as Head
 use Rattle.plans.specs.Plan.{Plan, unit-in, plan-read}
-use Rattle.memory.specs.Memory.{places, base, size, blocks, cleared, reading, leaving}
+use Rattle.memory.specs.Memory.{places, base, size, cleared, reading, leaving}
 use Rattle.memory.specs.Taken.{Taken, LinesAt}
 use Rattle.moving.specs.Moving.{shifted, wiped, moved-by, advanced}
 use Rattle.plans.proofs.WholeLaws.{units-so}
@@ -63,7 +63,7 @@ shifted-at front rest from n x e =
 
 -- a memory whose first n units have moved
 abbrev pub moved-to : Plan → List ℕ → List ℕ → ℕ → List ℕ
-moved-to p m r n = at m 0 ∷ (blocks (moved-by p m r) n ++ drop (suc (base p n)) m)
+moved-to p m r n = at m 0 ∷ (joined n (moved-by p m r) ++ drop (suc (base p n)) m)
 
 module _ (p : Plan) (m r : List ℕ) (room : size p ≤ length m) where
   length-moved-by : (q : ℕ) → q < length (p .units) → length (moved-by p m r q) ≡ places p q
@@ -72,7 +72,7 @@ module _ (p : Plan) (m r : List ℕ) (room : size p ≤ length m) where
 
   -- none has
   pub moved-none : m ≡ moved-to p m r 0
-  unfolding blocks base size
+  unfolding joined base size
   moved-none = first m room
     where
       first : (m : List ℕ) → size p ≤ length m → m ≡ at m 0 ∷ drop 1 m
@@ -82,16 +82,16 @@ module _ (p : Plan) (m r : List ℕ) (room : size p ≤ length m) where
   -- one unit more
   pub moved-more : (q : ℕ) → q < length (p .units) → (now : List ℕ) (from n x : ℕ) → now ≡ moved-to p m r q → from ≡ suc (base p q) → n ≡ places p q → x ≡ at r q →
       shifted now from n x ≡ moved-to p m r (q + 1)
-  unfolding blocks base
+  unfolding joined base
   moved-more q h now from n x is at-q long new =
       let f = moved-by p m r in
-      let front = at m 0 ∷ blocks f q in
+      let front = at m 0 ∷ joined q f in
       let rest = drop (suc (base p q)) m in
       let long-front : length front ≡ from = ap suc (length-blocks p f length-moved-by q (omega arith)) ∙ sym at-q in
       let next : drop n rest ≡ drop (suc (base p q + places p q)) m = drop-drop n (suc (base p q)) m ∙ ap (λ (k : ℕ). drop k m) (let e : suc (base p q) + n ≡ suc (base p q + places p q) = omega arith in e) in
       ap (λ (l : List ℕ). shifted l from n x) is ∙ shifted-at front rest from n x long-front
-      ∙ ap₂ (λ (a b : List ℕ). at m 0 ∷ (blocks f q ++ (a ++ b))) (ap₂ (λ (n x : ℕ). take n (x ∷ rest)) long new) next
-      ∙ ap (λ (l : List ℕ). at m 0 ∷ l) (sym (append-assoc (blocks f q) (f q) (drop (suc (base p q + places p q)) m)))
+      ∙ ap₂ (λ (a b : List ℕ). at m 0 ∷ (joined q f ++ (a ++ b))) (ap₂ (λ (n x : ℕ). take n (x ∷ rest)) long new) next
+      ∙ ap (λ (l : List ℕ). at m 0 ∷ l) (sym (append-assoc (joined q f) (f q) (drop (suc (base p q + places p q)) m)))
       ∙ ap (moved-to p m r) (sym (add-one q))
 
   -- all units, and t one higher

@@ -2,10 +2,11 @@
 use mathlib.Core.List.{List, _∷_, _++_}
 use Prim.Native.Nat.{ℕ, suc, _+_, _-_}
 use lib.ListN.{length, take, drop, replicate}
+use Rattle.words.specs.Loops.{joined}
 use Rattle.records.specs.Units.{word-before}
 use Rattle.records.specs.Records.{at}
 use Rattle.plans.specs.Plan.{Plan}
-use Rattle.memory.specs.Memory.{places, base, size, blocks}
+use Rattle.memory.specs.Memory.{places, base, size}
 
 -- memory m with t at 0 and n − 1 places behind it cleared
 abbrev pub wiped : List ℕ → ℕ → List ℕ
@@ -21,4 +22,4 @@ moved-by p m r q = take (places p q) (at r q ∷ drop (suc (base p q)) m)
 
 -- memory m with all units' places moved by one, and t one higher
 unfoldable pub advanced : Plan → List ℕ → List ℕ → List ℕ
-advanced p m r = suc (at m 0) ∷ (blocks (moved-by p m r) (length (p .units)) ++ drop (size p) m)
+advanced p m r = suc (at m 0) ∷ (joined (length (p .units)) (moved-by p m r) ++ drop (size p) m)

@@ -1,18 +1,19 @@
 -- A plan whose figures fit their fields is read back from its bytes, and every byte of it is below 256. Assumes nothing.
 use mathlib.Core.Path.{_≡_, refl, sym, ap, _∙_}
 use mathlib.Core.List.{List, [], _++_, append-nil}
-use Prim.Native.Nat.{ℕ, _+_, _*_, _<_}
+use Prim.Native.Nat.{ℕ, _+_, _*_, _<_, _/_}
 use native.Mathlib.Omega.{arith}
 use lib.Dec.{lit<}
 use lib.ListN.{length, getD, length-append}
 use lib.Seq.{getD-append-add}
 use lib.IntN.{ℤ}
 use lib.Signed.{mag}
+use Rattle.words.specs.Loops.{tab}
 use Rattle.words.specs.Words.{signed, residue}
 use Rattle.words.proofs.WordLaws.{residue-below, signed-residue}
 use Rattle.records.specs.Records.{at, two, low, high, fold-in, units-in, nodes-in, wires-in, unit-place, node-place, wire-place, whole-length}
 use Rattle.records.proofs.ByteLaws.{low-high, two-back}
-use Rattle.plans.specs.Plan.{Plan, no-unit, no-node, no-switch, unit-in, node-in, switch-in, plan-format, unit-bytes, node-bytes, switch-bytes, header-bytes, concat, plan-bytes, plan-unit-at, plan-node-at, switch-at, plan-read}
+use Rattle.plans.specs.Plan.{Plan, no-unit, no-node, no-switch, unit-in, node-in, switch-in, plan-format, unit-bytes, node-bytes, switch-bytes, header-bytes, concat, plan-bytes, plan-unit-at, plan-node-at, switch-at, plan-read, loop-length, loop-wire-bytes, loop-bytes, loop-read}
 use Rattle.plans.proofs.ConcatLaws.{tab-is, length-concat, at-concat}
 
 -- the figures of a plan fit their two bytes
@@ -160,3 +161,13 @@ module _ (p : Plan) where
         let registers : plan-read b .registers ≡ p .registers = unfold plan-read plan-bytes in low-high (p .registers) (narrow .registers) in
         let chain : plan-read b .chain ≡ p .chain = unfold plan-read plan-bytes in refl in
         λ z. record { fold = fold z; units = units z; nodes = nodes z; switches = switches z; registers = registers z; chain = chain z }
+
+-- ---- a loop
+
+-- its wire numbers are read back from its bytes, whatever stands behind them
+pub loop-back : (l rest : List ℕ) (len : ℕ) → len ≡ loop-length * length l → loop-read len (loop-bytes l ++ rest) ≡ l
+unfolding loop-bytes
+loop-back l rest len h =
+    let w = loop-bytes l ++ rest in
+    ap (λ (n : ℕ). tab n (λ i. at w (3 * i + 2))) (let e : len / 3 ≡ length l = omega arith in e)
+    ∙ tab-is l (λ i. at w (3 * i + 2)) 0 (λ i k. at-concat loop-wire-bytes 3 (λ a. refl) l rest i 2 0 k (lit< tt))

@@ -1,6 +1,6 @@
 -- A plan, its bytes and its reading from bytes: 01, "Plan bytes". Assumes nothing.
 use mathlib.Core.List.{List, [], _∷_, _++_}
-use Prim.Native.Nat.{ℕ, _+_}
+use Prim.Native.Nat.{ℕ, _+_, _*_, _/_}
 use lib.ListN.{length, getD}
 use lib.IntN.{pos}
 use Rattle.words.specs.Loops.{tab}
@@ -110,6 +110,10 @@ loop-wire-bytes e = loop-mark ++ (e ∷ [])
 
 unfoldable pub loop-bytes : List ℕ → List ℕ
 loop-bytes = concat loop-wire-bytes
+
+-- the wire numbers of the loop in the first `len` bytes of b
+abbrev pub loop-read : ℕ → List ℕ → List ℕ
+loop-read len b = tab (len / loop-length) (λ i. at b (loop-length * i + 2))
 
 -- ---- the plan that bytes say
 

@@ -5,8 +5,8 @@ ghost use lib.ListN.{length};
 ghost use lib.IntN.{pos};
 ghost use Rattle.records.specs.Records.{at, two};
 ghost use Rattle.records.specs.Answers.{unit-run, node-run, wire-run};
-ghost use Rattle.plans.specs.Plan.{plan-format};
-ghost use Rattle.plans.specs.Heads.{joint-at};
+ghost use Rattle.plans.specs.Plan.{switch-in, plan-format, plan-read};
+ghost use Rattle.plans.specs.Heads.{joint-at, Whole};
 use records::reading::Run;
 use times::Cycles;
 use times::Iterations;
@@ -156,6 +156,15 @@ pub fn tap_at(b: &[u8], at: usize) -> Cycles
     ensures { λ r. ⌜ r .0 ≡ pos (two (now (b .entry)) (at + 6)) ⌝ }
 {
     Cycles::of_bytes(b[at + 6], b[at + 7])
+}
+
+// The tap of switch e.
+pub fn tap_of(b: &[u8], p: Plan, e: usize) -> Cycles
+    requires { ⌜ Whole (now b) p ⌝ }
+    requires { ⌜ e < p .wires ⌝ }
+    ensures { λ r. ⌜ r .0 ≡ pos (switch-in (plan-read (now (b .entry))) e .tap) ⌝ }
+{
+    tap_at(b, p.switch_place(e))
 }
 
 // What a switch joins: in that slot the unit's input reads the source.

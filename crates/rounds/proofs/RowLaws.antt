@@ -3,9 +3,8 @@ use mathlib.Core.Path.{_≡_, refl, sym, ap, _∙_}
 use mathlib.Core.Logic.{inl, inr}
 use mathlib.Core.Bool.{true, false, true≢false}
 use mathlib.Core.List.{List}
-use Prim.Native.Nat.{ℕ, zero, suc, _-_, _<_, _≤_}
+use Prim.Native.Nat.{ℕ, suc, _-_, _<_, _≤_}
 use native.Mathlib.Omega.{arith}
-use lib.ListN.{replicate}
 use lib.Seq.{ext-getD}
 use lib.IntN.{ℤ, pos, negsuc, _+ℤ_}
 use lib.Signed.{_≤ℤ_}
@@ -24,11 +23,6 @@ use Rattle.folding.proofs.AlikeLaws.{better-same}
 use Rattle.folding.proofs.SettleLaws.{settled-later, settled-row, chain-first, round-low}
 use Rattle.rounds.specs.Rounds.{row-of, bytes-net, Wired, Moderate, Settling}
 use Rattle.rounds.proofs.StepLaws.{Reached, Fell}
-
-pub number-none : (z : Iterations) → z .0 ≡ pos 0 → (n u : ℕ) → iterations-at (replicate n z) u ≡ pos 0
-number-none z h zero u = refl
-number-none z h (suc n) zero = h
-number-none z h (suc n) (suc u) = number-none z h n u
 
 -- of up and down one is 0
 pub high-up : (z : ℤ) (n : ℕ) → z ≤ℤ pos n → up z ≤ n

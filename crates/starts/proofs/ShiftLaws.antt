@@ -3,11 +3,8 @@ use mathlib.Core.Path.{_≡_, refl, sym, ap, _∙_, subst}
 use mathlib.Core.Bool.{true, false, cond, true≢false}
 use mathlib.Core.List.{List}
 use Prim.Native.Nat.{ℕ, _+_, _-_, _<_, _≤_}
-use native.Mathlib.Decide.{ℕ-discrete}
 use native.Mathlib.Numerals.{add-one}
 use native.Mathlib.Omega.{arith}
-use lib.ListN.{length, set}
-use lib.Seq.{getD-set-same, getD-set-other}
 use lib.IntN.{ℤ, pos, _-ℤ_}
 use lib.Signed.{leZ}
 use mir.Syntax.{w32}
@@ -30,13 +27,6 @@ pub least-more : (n u : ℕ) (l : List Iterations) (a x : Iterations) → u < n 
     x .0 ≡ cond (leZ (a .0) (iterations-at l u)) (a .0) (iterations-at l u) → x .0 ≡ deepest (row-of n l) (u + 1)
 unfolding deepest minℤ
 least-more n u l a x h p q = q ∙ rw (add-one u, p, getD-tab n (iterations-at l) u (pos 0) h) refl
-
-pub filled-more : (f : ℕ → ℤ) (l : List Iterations) (u : ℕ) (x : Iterations) → u < length l → x .0 ≡ f u →
-    ((v : ℕ) → v < u → iterations-at l v ≡ f v) → (v : ℕ) → v < u + 1 → iterations-at (set l u x) v ≡ f v
-filled-more f l u x h q r v k = elim (ℕ-discrete v u) [
-  | yes s ↦ rw s (ap (λ (i : Iterations). i .0) (getD-set-same l u x (record { 0 = pos 0 }) h) ∙ q)
-  | no s ↦ ap (λ (i : Iterations). i .0) (getD-set-other l u v x (record { 0 = pos 0 }) s) ∙ r v (omega arith)
-]
 
 pub shift-at : (n u : ℕ) (l : List Iterations) (a : Iterations) → u < n → a .0 ≡ deepest (row-of n l) n →
     iterations-at l u -ℤ a .0 ≡ shifted (row-of n l) n u

@@ -1,14 +1,14 @@
 -- Laws of the loop that bytes say: what stops its judging, what it has where there is no fault, and its wires' text. Assumes nothing.
-use mathlib.Core.Path.{_≡_, refl, sym, ap, ap₂, _∙_}
+use mathlib.Core.Path.{_≡_, sym, ap, _∙_}
 use mathlib.Core.Bool.{true}
-use mathlib.Core.List.{List, _++_}
+use mathlib.Core.List.{List}
 use Prim.Native.Nat.{ℕ, zero, suc, _*_, _%_, _<_, _≤_}
 use native.Mathlib.Omega.{arith}
 use lib.Dec.{ltb, leb, eqb}
 use lib.ListN.{length}
 use borrow.Author.Tests.{leb-true}
-use Rattle.words.specs.Loops.{first, unless}
-use Rattle.words.proofs.LoopLaws.{and-split, length-tab, getD-tab}
+use Rattle.words.specs.Loops.{first, unless, joined}
+use Rattle.words.proofs.LoopLaws.{and-split, length-tab, getD-tab, joined-cong}
 use Rattle.words.proofs.FaultLaws.{first-hit, first-le, then-split, then-le, unless-true, unless-le}
 use Rattle.records.specs.declared.reading.Reason.{Reason}
 use Rattle.records.specs.declared.reading.Judged.the-variants as J
@@ -18,7 +18,6 @@ use Rattle.records.proofs.ReadingLaws.{record-le}
 use Rattle.records.proofs.AnswerLaws.{reason-back}
 use Rattle.plans.specs.Plan.{loop-mark}
 use Rattle.numerals.specs.Numerals.{field}
-use Rattle.lines.specs.Text.{joined}
 use Rattle.text.specs.Texting.{wires-shown, wire-at, loop-wires, loop-whole, wire-fault, loop-fault}
 
 refused-some : (f : ℕ) (why : Reason) → judged f ≡ J.Refused why → 0 < f
@@ -54,13 +53,8 @@ loop-fault-le b =
 pub why-loop : (b : List ℕ) (why : Reason) → judged (loop-fault b) ≡ J.Refused why → reason-number why ≡ loop-fault b
 why-loop b why e = judged-reason (loop-fault b) why (loop-fault-le b) e
 
-joined-same : (n : ℕ) (f g : ℕ → List ℕ) → ((i : ℕ) → i < n → f i ≡ g i) → joined n f ≡ joined n g
-unfolding joined
-joined-same zero f g h = refl
-joined-same (suc n) f g h = ap₂ (λ (l m : List ℕ). l ++ m) (joined-same n f g (λ i l. h i (omega arith))) (h n (omega arith))
-
 -- the wires read in place are the loop's
 pub wires-so : (b : List ℕ) → joined (wires-shown b) (λ i. field " " (wire-at b i)) ≡ joined (length (loop-wires b)) (λ i. field " " (at (loop-wires b) i))
 wires-so b =
-    joined-same (wires-shown b) (λ i. field " " (wire-at b i)) (λ i. field " " (at (loop-wires b) i)) (λ i l. ap (field " ") (sym (getD-tab (wires-shown b) (wire-at b) i 0 l)))
+    joined-cong (wires-shown b) (λ i. field " " (wire-at b i)) (λ i. field " " (at (loop-wires b) i)) (λ i l. ap (field " ") (sym (getD-tab (wires-shown b) (wire-at b) i 0 l)))
     ∙ ap (λ (n : ℕ). joined n (λ i. field " " (at (loop-wires b) i))) (sym (length-tab (wires-shown b) (wire-at b)))

@@ -5,10 +5,10 @@ use mathlib.Core.List.{List}
 use Prim.Native.Nat.{ℕ, _+_, _*_, _/_, _%_, _≤_}
 use lib.Dec.{ltb, leb, eqb}
 use lib.ListN.{length}
-use Rattle.words.specs.Loops.{tab, first, unless, _then_}
+use Rattle.words.specs.Loops.{first, unless, _then_}
 use Rattle.records.specs.Records.{at, over, between, most-units, most-nodes, most-wires, record-fault}
 use Rattle.plans.specs.declared.Plan.{Plan}
-use Rattle.plans.specs.Plan.{loop-mark, loop-length}
+use Rattle.plans.specs.Plan.{loop-mark, loop-length, loop-read}
 use Rattle.plans.specs.Heads.{Whole}
 use Rattle.plans.specs.Judging.{plan-fault}
 use Rattle.lines.specs.Text.{line-most}
@@ -63,7 +63,7 @@ abbrev pub wire-at : List ℕ → ℕ → ℕ
 wire-at b i = at b (loop-length * i + 2)
 
 abbrev pub loop-wires : List ℕ → List ℕ
-loop-wires b = tab (wires-shown b) (wire-at b)
+loop-wires b = loop-read (length b) b
 
 -- whole records, at least one, and no more than there may be nodes
 abbrev pub loop-whole : List ℕ → Bool

@@ -1,2 +1,3 @@
 -- Laws.
 pub mod ReadLaws
+pub mod ArrayLaws

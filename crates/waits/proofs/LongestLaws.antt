@@ -1,15 +1,15 @@
 -- The longest wait so far, at each place. Assumes nothing.
-use mathlib.Core.Path.{_≡_, refl, sym, ap, _∙_}
+use mathlib.Core.Path.{_≡_, sym, ap, _∙_}
 use mathlib.Core.Bool.{cond}
 use mathlib.Core.List.{List}
-use Prim.Native.Nat.{ℕ, zero, suc, _+_, _<_, max}
+use Prim.Native.Nat.{ℕ, _+_, _<_, max}
 use native.Mathlib.Numerals.{add-one}
 use native.Mathlib.Decide.{ℕ-discrete, decLe}
 use native.Mathlib.Omega.{arith}
 use lib.Dec.{eqb}
-use lib.ListN.{length, getD, set, replicate}
+use lib.ListN.{length, getD, set}
 use lib.Seq.{getD-set-same, getD-set-other}
-use lib.IntN.{ℤ, pos}
+use lib.IntN.{pos}
 use lib.Signed.{leZ}
 use borrow.Author.Tests.{eq-eqb, ne-eqb, le-leb, lt-leb}
 use Rattle.times.specs.declared.Cycles.{Cycles}
@@ -47,17 +47,3 @@ longest-more n place f many l long before fits old new w eo ew en k hk =
 pub longest-none : (place f : ℕ → ℕ) (many : ℕ) (l : List Cycles) → ((k : ℕ) → cycles-at l k ≡ pos 0) → SoFar 0 place f many l
 unfolding largest
 longest-none place f many l h k hk = h k
-
--- an array filled up to n, and one element more
-pub filled-more : {A : Type 0} (num : A → ℤ) (d : A) (f : ℕ → ℤ) (n : ℕ) (l : List A) (v : A) → n < length l → ((k : ℕ) → k < n → num (getD l k d) ≡ f k) → num v ≡ f n →
-    (k : ℕ) → k < n + 1 → num (getD (set l n v) k d) ≡ f k
-filled-more num d f n l v fits before is k h = elim (ℕ-discrete k n) [
-  | yes same ↦ rw same (ap num (getD-set-same l n v d fits) ∙ is)
-  | no other ↦ ap num (getD-set-other l n k v d other) ∙ before k (omega arith)
-]
-
--- an array of one wait of 0
-pub cycles-none : (c : Cycles) → c .0 ≡ pos 0 → (n k : ℕ) → cycles-at (replicate n c) k ≡ pos 0
-cycles-none c h zero k = refl
-cycles-none c h (suc n) zero = h
-cycles-none c h (suc n) (suc k) = cycles-none c h n k

@@ -1,5 +1,5 @@
 -- Laws of the loops.
-use mathlib.Core.Path.{_≡_, refl, sym, ap, _∙_, subst}
+use mathlib.Core.Path.{_≡_, refl, sym, ap, _∙_, subst, ap₂}
 use mathlib.Core.Logic.{_⊎_, inl, inr}
 use mathlib.Core.Bool.{Bool, true, false, cond, _&&_, _||_, true≢false, and-false, and-or-distrib-left}
 use mathlib.Core.Option.{Option, some, none}
@@ -10,7 +10,8 @@ use native.Mathlib.Omega.{arith}
 use lib.Dec.{eqb}
 use lib.ListN.{length, getD}
 use borrow.Author.Tests.{eqb-true, eq-eqb}
-use Rattle.words.specs.Loops.{tab, every, some-of, total, largest, count, lowest, or-else}
+use mathlib.Core.List.{List, _++_}
+use Rattle.words.specs.Loops.{tab, every, some-of, total, largest, count, lowest, or-else, joined}
 
 pub length-tab : {A : Type 0} (n : ℕ) (f : ℕ → A) → length (tab n f) ≡ n
 unfolding tab
@@ -196,3 +197,8 @@ every-cong (suc n) p q h = rw (every-cong n p q (λ i l. h i (omega arith)), h n
 pub count-cong : (n : ℕ) (p q : ℕ → Bool) → ((i : ℕ) → i < n → p i ≡ q i) → count n p ≡ count n q
 unfolding count
 count-cong n p q h = total-cong n (λ i. cond (p i) 1 0) (λ i. cond (q i) 1 0) (λ i l. ap (λ (b : Bool). cond {A = ℕ} b 1 0) (h i l))
+
+pub joined-cong : (n : ℕ) (f g : ℕ → List ℕ) → ((i : ℕ) → i < n → f i ≡ g i) → joined n f ≡ joined n g
+unfolding joined
+joined-cong zero f g h = refl
+joined-cong (suc n) f g h = ap₂ (λ (l m : List ℕ). l ++ m) (joined-cong n f g (λ i l. h i (omega arith))) (h n (omega arith))

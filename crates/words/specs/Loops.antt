@@ -2,13 +2,18 @@
 -- Each grows at its far end, as a loop does: with `suc n` it is what it was with n, and one turn more. Assumes nothing.
 use mathlib.Core.Bool.{Bool, true, false, cond, _&&_, _||_}
 use mathlib.Core.Option.{Option, some, none}
-use mathlib.Core.List.{List, [], _∷_}
+use mathlib.Core.List.{List, [], _∷_, _++_}
 use Prim.Native.Nat.{ℕ, zero, suc, _+_, max}
 
 -- f 0 ∷ f 1 ∷ .. ∷ f (n − 1) ∷ []
 unfoldable pub tab {ℓ} : {A : Type ℓ} → ℕ → (ℕ → A) → List A
 tab zero f = []
 tab (suc n) f = f zero ∷ tab n (λ i. f (suc i))
+
+-- f 0, f 1, .., f (n − 1) one after the other
+unfoldable pub joined : ℕ → (ℕ → List ℕ) → List ℕ
+joined zero f = []
+joined (suc n) f = joined n f ++ f n
 
 -- every i below n passes
 unfoldable pub every : ℕ → (ℕ → Bool) → Bool

@@ -2,6 +2,7 @@
 use Prim.Native.Nat.{_+_, _<_}
 use mathlib.Core.Path.{_≡_}
 use native.Mathlib.Omega.{arith}
+use Rattle.memory.proofs.TakenLaws.{whole-taken}
 use Rattle.words.proofs.Ints.{from-pos}
 use Rattle.plans.specs.Plan.{plan-read}
 use Rattle.memory.specs.Memory.{size}
@@ -18,7 +19,7 @@ depth-of-requires : tie.Need-depth-of-requires
 depth-of-requires c κs = search needs
 
 tap-of-requires : tie.Need-tap-of-requires
-tap-of-requires c κs = search needs
+tap-of-requires c κs = let s = c .before .before .before in (whole-taken (s .pre .0), s .pre .1 .1 .0)
 
 place-requires : tie.Need-place-requires
 place-requires c κs = (from-pos _ (c .tap-of .ensures), c .before .depth-of .ensures .1)

@@ -4,7 +4,8 @@ use Prim.Native.Nat.{ℕ, _-_, _*_, _≤_}
 use native.Mathlib.Omega.{arith}
 use Rattle.plans.specs.Plan.{switch-at, plan-read}
 use Rattle.plans.proofs.WholeLaws.{switch-inside, switch-so}
-use Rattle.lines.specs.Text.{joined, switch-line, switch-lines, line-most}
+use Rattle.words.specs.Loops.{joined}
+use Rattle.lines.specs.Text.{switch-line, switch-lines, line-most}
 use Rattle.numerals.specs.Wrote.{Wrote}
 use Rattle.numerals.proofs.WroteLaws.{wrote-length}
 use Rattle.lines.proofs.LineLaws.{lines-none, lines-more, lines-done}

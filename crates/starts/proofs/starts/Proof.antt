@@ -4,12 +4,14 @@ use Prim.Native.Nat.{ℕ, _-_, _<_, _≤_}
 use native.Mathlib.Omega.{arith}
 use borrow.Author.Needs.{needs}
 use lib.ListN.{length, length-set}
-use lib.IntN.{_-ℤ_}
+use lib.IntN.{_-ℤ_, pos}
+use Rattle.times.specs.declared.Iterations.{Iterations}
 use Rattle.times.specs.Times.{iterations-at}
 use Rattle.records.specs.Records.{most-nodes}
 use Rattle.rounds.specs.Rounds.{row-of}
 use Rattle.starts.specs.Starts.{shifted}
-use Rattle.starts.proofs.ShiftLaws.{filled-more, shift-at}
+use Rattle.starts.proofs.ShiftLaws.{shift-at}
+use Rattle.times.proofs.ArrayLaws.{filled-more}
 use Rattle.starts.proofs.starts.Statement.{statement}
 use Rattle.starts.proofs.starts.Tie as tie
 
@@ -63,7 +65,7 @@ loop-again c =
     let l = c .before .before .before .loop in
     let s = c .before .before .before .before .before .before .args in
     let long = l .inv .1 in
-    (omega arith, simp length-set long, filled-more (shifted (row-of (s .nodes) (s .t1)) (s .nodes)) (l .starts) (l .u) (c .minus .result) (omega arith) (c .minus .ensures ∙ at-u (c .before)) (l .inv .2))
+    (omega arith, simp length-set long, filled-more (λ (x : Iterations). x .0) (record { 0 = pos 0 }) (shifted (row-of (s .nodes) (s .t1)) (s .nodes)) (l .u) (l .starts) (c .minus .result) (omega arith) (l .inv .2) (c .minus .ensures ∙ at-u (c .before)))
 
 returns : tie.Need-returns Inv-loop μ-loop
 returns c =

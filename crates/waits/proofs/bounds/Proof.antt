@@ -1,6 +1,6 @@
 -- `waits::bounds` meets its contract: the bound of each wire goes to its place. Assumes nothing.
 use Rattle.waits.proofs.FineLaws.{fold-some, few-wires, fold-so}
-use Rattle.waits.proofs.LongestLaws.{filled-more}
+use Rattle.times.proofs.ArrayLaws.{filled-more}
 use Rattle.times.specs.declared.Iterations.{Iterations}
 use lib.ListN.{length-set}
 use Prim.Native.Nat.{ℕ, _-_, _<_, _≤_}

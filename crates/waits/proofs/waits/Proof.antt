@@ -17,7 +17,8 @@ use Rattle.folding.specs.Folding.{net, tap}
 use Rattle.waits.specs.Fine.{from-node, from-unit}
 use Rattle.waits.proofs.FineLaws.{leaves-so, meets-so, on-unit-so, few-units, few-nodes, few-wires, wires-so}
 use Rattle.waits.proofs.WaitSizes.{start-near, wait-is-tap}
-use Rattle.waits.proofs.LongestLaws.{SoFar, filled-more, longest-none, longest-more}
+use Rattle.waits.proofs.LongestLaws.{SoFar, longest-none, longest-more}
+use Rattle.times.proofs.ArrayLaws.{filled-more}
 use Rattle.waits.proofs.waits.Statement.{statement}
 use Rattle.waits.proofs.waits.Tie as tie
 

@@ -135,7 +135,10 @@ array-copy-out-longest : tie.Need-array-copy-out-longest Inv-loop μ-loop
 array-copy-out-longest c = got (c .before .before .before .before .before .before) .few
 
 tap-of-requires : tie.Need-tap-of-requires Inv-loop μ-loop
-tap-of-requires c κs = search needs
+tap-of-requires c κs =
+    let h = c .before .before .before .before .before .before .before in
+    let s = h .before .before .before .before .before .before .before .before .before .before .before in
+    (s .pre .0 .whole, h .before .before .before .before .loop-test .taken)
 
 larger-requires : tie.Need-larger-requires Inv-loop μ-loop
 larger-requires c κs = search needs

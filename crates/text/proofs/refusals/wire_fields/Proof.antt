@@ -5,7 +5,7 @@ use native.Mathlib.Omega.{arith}
 use Rattle.numerals.specs.Numerals.{field}
 use Rattle.numerals.specs.Wrote.{Wrote}
 use Rattle.numerals.proofs.WroteLaws.{wrote-length}
-use Rattle.lines.specs.Text.{joined}
+use Rattle.words.specs.Loops.{joined}
 use Rattle.text.specs.Texting.{wire-at}
 use Rattle.lines.proofs.LineLaws.{lines-none, lines-more, lines-done}
 use borrow.Author.Needs.{needs}
