@@ -12,7 +12,7 @@ use lib.ListN.{length, getD}
 use lib.IntN.{natAbs}
 use borrow.Author.Tests.{eqb-true, eq-eqb}
 use Rattle.words.specs.Loops.{every, count}
-use Rattle.words.proofs.LoopLaws.{passed?, and-split, and-join, bool-ext, every-at}
+use Rattle.words.proofs.LoopLaws.{lowest-hit, passed?, and-split, and-join, bool-ext, every-at}
 use Rattle.records.specs.declared.Node.{Node}
 use Rattle.records.specs.Units.{op-port, kind-of, inputs-of, value, word-before}
 use Rattle.records.specs.Records.{at, runs-in, fed-once}
@@ -22,6 +22,7 @@ use Rattle.plans.specs.declared.Plan as Head
 use Rattle.plans.specs.Plan.{Plan, node-in, switch-in, plan-read}
 use Rattle.plans.specs.Judging.{switched, plan-feeds}
 use Rattle.cycle.specs.Cycle.{through, input-word, worked, result}
+use Rattle.memory.specs.Memory.{reading}
 use Rattle.memory.specs.Taken.{Taken}
 use Rattle.inputs.specs.Inputs.{last-of, Gathered, in-slot, input-place, tapped}
 use Rattle.cycle.specs.Given.{node-in-slot, node-unit, given, ResultsOf}
@@ -81,6 +82,17 @@ module _ (b : List ℕ) (p : Head.Plan) (t : Taken b p) where
       let in-turn : n .slot ≡ v = eqb-true (n .slot) (w .slot) (r .1) ∙ s .1 in
       let one = fed-by-one (f .node) i (f .is-node) (subst (λ (z : ℕ). z < inputs-of (n .op)) (s .2) (f .input-fits)) in
       one-only (length (pl .switches)) (switched pl q v i) (sym (ap₂ (λ (q v : ℕ). count (length (pl .switches)) (switched pl q v i)) on in-turn) ∙ one) e d he hd te td
+
+  -- the word at the input that a switch feeds is the one that it reads
+  pub switch-read : (m : List ℕ) (e : ℕ) → e < length (plan-read b .switches) →
+      let w = switch-in (plan-read b) e in
+      input-word (plan-read b) m (w .unit) (w .slot) (w .input) ≡ reading (plan-read b) m (w .source) (w .tap)
+  switch-read m e he =
+      let pl = plan-read b in
+      let w = switch-in pl e in
+      let here = switched pl (w .unit) (w .slot) (w .input) in
+      let feeds = switched-join pl (w .unit) (w .slot) (w .input) e refl refl refl in
+      ap (through pl m) (lowest-hit (length (pl .switches)) here e he feeds (λ d hd td. switch-only (w .unit) (w .slot) (w .input) d e hd he td feeds))
 
   -- the words gathered are those at the inputs
   input-so : (m words : List ℕ) (v : ℕ) → Gathered (p .wires) (in-slot (plan-read b) v) (input-place (plan-read b)) (tapped (plan-read b) m) 16 words →

@@ -175,7 +175,7 @@ bytes-left b before number len after p small = elim (ℕ-discrete number 6) [
 ]
 
 pub demand-2 : Demand2Met
-demand-2 b before number len after bytes p = record {
+demand-2 b before number len after p = record {
   at-0 = λ done.
       let l = plan-left b before number len after p done in
       subst (WellPlanned (sheet-of b)) (sym (l .says)) (well-planned (sheet-of b) (l .sound) (l .folds));

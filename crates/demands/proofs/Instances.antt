@@ -1,14 +1,10 @@
 -- Each theorem with hypotheses has an instance with all of them met: demands 2 and 3 on case 9's sheet and on one with a port, demand
 -- 2's refused half on case 10. Assumes nothing.
-use mathlib.Core.Path.{_≡_, refl, sym, ap, subst}
-use mathlib.Core.Bool.{true}
+use mathlib.Core.Path.{_≡_, refl, sym, ap}
 use mathlib.Core.List.{List, [], _∷_}
-use Prim.Native.Nat.{ℕ, zero, suc, _-_, _<_, _≤_}
+use Prim.Native.Nat.{ℕ, zero, suc, _<_, _≤_}
 use native.Mathlib.Omega.{arith}
-use lib.Dec.{ltb}
-use lib.ListN.{length, take, replicate, List·getD-eq-default}
-use borrow.Author.Tests.{ltb-true, ltb-false}
-use mathlib.Core.Logic.{inl, inr}
+use lib.ListN.{length, take, replicate}
 use Rattle.words.specs.Loops
 use Rattle.words.specs.Words
 use Rattle.records.specs.Units
@@ -21,10 +17,9 @@ use Rattle.plans.specs.Plan
 use Rattle.plans.specs.Judging
 use Rattle.drawing.specs.PlanOf
 use Rattle.planner.specs.Planning
-use Rattle.words.specs.Loops.{every, tab}
-use Rattle.words.proofs.LoopLaws.{passed?, every-at}
+use Rattle.words.specs.Loops.{tab}
 use Rattle.records.specs.Units.{channels}
-use Rattle.records.specs.Records.{at, over}
+use Rattle.records.specs.Records.{over}
 use Rattle.sheets.specs.Sheet.{sheet-of}
 use Rattle.plans.specs.Plan.{plan-bytes, loop-bytes, plan-read, loop-read}
 use Rattle.drawing.specs.PlanOf.{plan-of}
@@ -33,19 +28,12 @@ use Rattle.memory.specs.Memory
 use Rattle.memory.specs.Memory.{size}
 use Rattle.demands.specs.Cases
 use Rattle.demands.specs.Cases.{loop-of-two, port-and-scale}
-use Rattle.demands.specs.Running.{Handed, last-cycle, Runs}
-use Rattle.demands.specs.Demands.{Bytes, WellPlanned, LoopProves}
-use Rattle.demands.proofs.Worked.{worked}
+use Rattle.demands.specs.Running.{Handed, last-cycle, Run, Admitted, Runs}
+use Rattle.demands.specs.Demands.{WellPlanned, LoopProves}
+use Rattle.demands.proofs.Worked.{loop-10}
 use Rattle.demands.proofs.WrongPrograms.{room, case-9-number}
 use Rattle.demands.proofs.DemandTwo.{demand-2}
 use Rattle.demands.proofs.DemandThree.{demand-3}
-
--- bytes that are tested one by one
-tested : (b : List ℕ) → every (length b) (λ i. ltb (at b i) 256) ≡ true → Bytes b
-tested b h i = elim (passed? (ltb i (length b))) [
-  | inl t ↦ ltb-true (at b i) 256 (every-at (length b) (λ i. ltb (at b i) 256) h i (ltb-true i (length b) t))
-  | inr f ↦ subst (λ (z : ℕ). z < 256) (sym (List·getD-eq-default b 0 {n = i} (ltb-false i (length b) f))) (omega arith)
-]
 
 -- a sheet that the planner passes, with the room its plan needs
 passed-result : (b before : List ℕ) → plan-number b (length before) ≡ 0 → Planning b before 0 (PlanOf.plan-length b) (over (plan-bytes (plan-of (sheet-of b))) before)
@@ -56,16 +44,12 @@ passed-result b before h = record { number-is = sym h; fixed = λ six. (refl, re
 abbrev pub after-9 : List ℕ
 after-9 = over (plan-bytes (plan-of (sheet-of (loop-of-two 1)))) room
 
-pub bytes-9 : Bytes (loop-of-two 1)
-unfolding Cases.loop-of-two Loops.every
-bytes-9 = tested (loop-of-two 1) refl
-
 pub planned-9 : Planning (loop-of-two 1) room 0 57 after-9
 unfolding Cases.loop-of-two
 planned-9 = passed-result (loop-of-two 1) room case-9-number
 
 pub demand-2-on-9 : WellPlanned (sheet-of (loop-of-two 1)) (plan-read (take 57 (over (plan-bytes (plan-of (sheet-of (loop-of-two 1)))) room)))
-demand-2-on-9 = demand-2 (loop-of-two 1) room 0 57 after-9 bytes-9 planned-9 .at-0 refl
+demand-2-on-9 = demand-2 (loop-of-two 1) room 0 57 after-9 planned-9 .at-0 refl
 
 size-9 : size (plan-read (take 57 after-9)) ≡ 5
 unfolding room Cases.loop-of-two Memory.base Memory.size Loops.tab Loops.every Loops.some-of Loops.total Loops.largest Loops.count Loops.lowest Loops.first Words.floor Words.residue Words.signed Words.sum Words.difference Words.scale Units.value Records.reading-fault Records.clashes Records.occupied Records.fed-once Sheet.sheet-of Sheet.sheet-faults Walks.minℤ Walks.better Walks.next Walks.row Walks.settled Walks.settles Walks.chain Walks.foldable Walks.deepest Walks.starts Folding.raw Folding.bound Folding.wait Folding.tap Lifetime.longest-wait Lifetime.falls Lifetime.live Lifetime.registers Plan.concat Plan.plan-bytes Plan.plan-read Judging.longest-tap Judging.figures-right Judging.plan-faults PlanOf.plan-of Planning.plan-number
@@ -82,21 +66,16 @@ unfolding Cases.loop-of-two Loops.tab Sheet.sheet-of
 units-9 = omega arith
 
 -- the samples do not matter, and neither do the words that memory and output held
-pub demand-3-on-9 :
-    Runs (take 57 after-9) (sheet-of (loop-of-two 1)) (plan-read (take 57 after-9)) (replicate 6 7)
-    (demand-3 (loop-of-two 1) room 57 after-9 bytes-9 planned-9 (λ c j. j) .0 .val) (λ t. replicate 16 t) (λ t. replicate 2 9)
+pub demand-3-on-9 : (r : Run) → Admitted (take 57 after-9) (replicate 6 7) (λ t. replicate 16 t) (λ t. replicate 2 9) r →
+    Runs (sheet-of (loop-of-two 1)) (plan-read (take 57 after-9)) (demand-3 (loop-of-two 1) room 57 after-9 planned-9 (λ c j. j) .0 .val) (λ t. replicate 16 t) r
 demand-3-on-9 =
-    demand-3 (loop-of-two 1) room 57 after-9 bytes-9 planned-9 (λ c j. j) .1 (replicate 6 7) (omega (arith, size-9)) (λ t. replicate 16 t) (λ t. replicate 2 9)
-    (λ t. omega arith) (λ t. units-9) (λ x hx port l reached early. absurd (no-port-9 x hx port))
+    demand-3 (loop-of-two 1) room 57 after-9 planned-9 (λ c j. j) .1 (replicate 6 7) (omega (arith, size-9)) (λ t. replicate 16 t) (λ t. replicate 2 9)
+    (λ t. omega arith) (λ t. units-9) (λ x hx port l reached early. absurd (no-port-9 x hx port)) .1
 
 -- ---- case 10, refused with the loop of wires 0, 1
 
 abbrev pub after-10 : List ℕ
 after-10 = over (loop-bytes (0 ∷ 1 ∷ [])) room
-
-bytes-10 : Bytes (loop-of-two 0)
-unfolding Cases.loop-of-two Loops.every
-bytes-10 = tested (loop-of-two 0) refl
 
 case-10-number : plan-number (loop-of-two 0) (length room) ≡ 6
 unfolding room Cases.loop-of-two Loops.tab Loops.every Loops.some-of Loops.total Loops.largest Loops.count Loops.lowest Loops.first Words.floor Words.residue Words.signed Words.sum Words.difference Words.scale Units.value Records.reading-fault Records.clashes Records.occupied Records.fed-once Sheet.sheet-of Sheet.sheet-faults Walks.minℤ Walks.better Walks.next Walks.row Walks.settled Walks.settles Walks.chain Walks.foldable Walks.deepest Walks.starts Folding.raw Folding.bound Folding.wait Folding.tap Lifetime.longest-wait Lifetime.falls Lifetime.live Lifetime.registers Plan.concat Plan.plan-bytes Plan.plan-read Judging.longest-tap Judging.figures-right Judging.plan-faults PlanOf.plan-of Planning.plan-number
@@ -104,11 +83,11 @@ case-10-number = refl
 
 pub demand-2-on-10 : LoopProves (sheet-of (loop-of-two 0)) (loop-read 6 after-10)
 demand-2-on-10 =
-    demand-2 (loop-of-two 0) room 6 6 after-10 bytes-10
+    demand-2 (loop-of-two 0) room 6 6 after-10
     (record {
       number-is = sym case-10-number;
       fixed = λ other. absurd (other refl);
-      shown = λ six. record { wire = 0; wires = 1 ∷ []; loop = worked .1; length-is = refl; left = refl };
+      shown = λ six. record { wire = 0; wires = 1 ∷ []; loop = loop-10; length-is = refl; left = refl };
     })
     .at-6 refl
 
@@ -119,10 +98,6 @@ room-49 = replicate 49 0
 
 abbrev pub after-port : List ℕ
 after-port = over (plan-bytes (plan-of (sheet-of port-and-scale))) room-49
-
-pub bytes-port : Bytes port-and-scale
-unfolding Cases.port-and-scale Loops.every
-bytes-port = tested port-and-scale refl
 
 port-number : plan-number port-and-scale (length room-49) ≡ 0
 unfolding Cases.port-and-scale Loops.tab Loops.every Loops.some-of Loops.total Loops.largest Loops.count Loops.lowest Loops.first Words.floor Words.residue Words.signed Words.sum Words.difference Words.scale Units.value Records.reading-fault Records.clashes Records.occupied Records.fed-once Sheet.sheet-of Sheet.sheet-faults Walks.minℤ Walks.better Walks.next Walks.row Walks.settled Walks.settles Walks.chain Walks.foldable Walks.deepest Walks.starts Folding.raw Folding.bound Folding.wait Folding.tap Lifetime.longest-wait Lifetime.falls Lifetime.live Lifetime.registers Plan.concat Plan.plan-bytes Plan.plan-read Judging.longest-tap Judging.figures-right Judging.plan-faults PlanOf.plan-of Planning.plan-number
@@ -150,10 +125,9 @@ handed-port xs zero h port l reached early = ap (xs 3) (omega arith)
 handed-port xs (suc zero) h port l reached early = absurd (omega arith)
 handed-port xs (suc (suc x)) h port l reached early = absurd (omega arith)
 
-pub demand-3-on-port : (xs : ℕ → ℕ → ℕ) →
-    Runs (take 49 after-port) (sheet-of port-and-scale) (plan-read (take 49 after-port)) (replicate 4 7)
-    (demand-3 port-and-scale room-49 49 after-port bytes-port planned-port xs .0 .val) (samples xs) (λ t. replicate 2 9)
+pub demand-3-on-port : (xs : ℕ → ℕ → ℕ) (r : Run) → Admitted (take 49 after-port) (replicate 4 7) (samples xs) (λ t. replicate 2 9) r →
+    Runs (sheet-of port-and-scale) (plan-read (take 49 after-port)) (demand-3 port-and-scale room-49 49 after-port planned-port xs .0 .val) (samples xs) r
 unfolding samples Loops.tab
 demand-3-on-port xs =
-    demand-3 port-and-scale room-49 49 after-port bytes-port planned-port xs .1 (replicate 4 7) (omega (arith, size-port)) (samples xs) (λ t. replicate 2 9)
-    (λ t. omega arith) (λ t. units-port) (handed-port xs)
+    demand-3 port-and-scale room-49 49 after-port planned-port xs .1 (replicate 4 7) (omega (arith, size-port)) (samples xs) (λ t. replicate 2 9)
+    (λ t. omega arith) (λ t. units-port) (handed-port xs) .1

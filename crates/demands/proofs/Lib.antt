@@ -7,6 +7,7 @@ pub mod DemandOne
 pub mod DemandTwo
 pub mod DemandThree
 pub mod Worked
+pub mod Prints
 pub mod Registers
 pub mod WrongPrograms
 pub mod Instances

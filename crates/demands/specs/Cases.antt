@@ -1,18 +1,22 @@
 -- The sheets worked by hand, cases 1 to 12, and what the paper says of each: 01, "Sheets worked by hand". Assumes nothing.
+use mathlib.Core.Path.{_≡_}
+use mathlib.Core.Logic.{_↔_}
 use mathlib.Core.Bool.{cond}
 use mathlib.Core.List.{List, [], _∷_, map}
 use Prim.Native.Nat.{ℕ, zero, suc}
 use lib.Dec.{eqb}
 use lib.ListN.{length}
-use lib.IntN.{ℤ, pos, negsuc}
+use lib.IntN.{ℤ, pos, negsuc, _+ℤ_}
 use Rattle.words.specs.Loops.{tab}
 use Rattle.words.specs.Words.{floor, scale}
-use Rattle.sheets.specs.Sheet.{sheet-of}
-use Rattle.folding.specs.Walks.{Net, start, chain}
+use Rattle.sheets.specs.Sheet.{Sheet, sheet-of}
+use Rattle.folding.specs.Walks.{Net, Loop, start, chain}
 use Rattle.folding.specs.Folding.{net, raw, bound, tap}
 use Rattle.folding.specs.Lifetime.{registers}
 use Rattle.drawing.specs.PlanOf.{plan-length}
 use Rattle.planner.specs.Planning.{plan-number}
+use Rattle.lines.specs.Prints.{print-9, print-10}
+use Rattle.demands.specs.Demands.{Among, Prints}
 
 -- "Multipliers A, B on units 0, 1, depth 1, N=4, A slot 0, B slot 1, A→B one delay, B→A none", with "K 16384 and −32768"; case 10 is
 -- "Same, B in slot 0"
@@ -44,11 +48,6 @@ example-10 = record { nodes = 4; wires = 4; from = one-of-four 0 1 2 0; to = one
 
 -- ---- what the definitions give
 
--- a case by its number, with its figures
-pub record Case : Type 0 where
-  pub case : ℕ
-  pub figures : List (List ℤ)
-
 -- of a sheet with room for its plan: the planner's number, raw waits, bounds; where it passes starts, taps, and registers and chain
 unfoldable pub sheet-figures : List ℕ → List (List ℤ)
 sheet-figures b =
@@ -60,44 +59,101 @@ sheet-figures b =
     (map pos (tab (length (s .nodes)) r) ∷ map pos (tab (length (s .wires)) (tap s r)) ∷ map pos (registers s r ∷ chain (net s) ∷ []) ∷ [])
     []
 
-unfoldable pub worked-cases : List Case
-worked-cases =
-    record { case = 1; figures = (floor (negsuc 0) 4 ∷ []) ∷ [] }
-    ∷ record { case = 2; figures = (floor (negsuc 3) 4 ∷ []) ∷ [] }
-    ∷ record { case = 3; figures = (floor (negsuc 4) 4 ∷ []) ∷ [] }
-    ∷ record { case = 4; figures = (floor (pos 3) 4 ∷ []) ∷ [] }
-    ∷ record { case = 5; figures = (pos (scale (pos 16384) 1) ∷ []) ∷ [] }
-    ∷ record { case = 6; figures = (pos (scale (pos 16384) 4294967295) ∷ []) ∷ [] }
-    ∷ record { case = 7; figures = (pos (scale (negsuc 16383) 3) ∷ []) ∷ [] }
-    ∷ record { case = 8; figures = (pos (scale (negsuc 32767) 2147483648) ∷ []) ∷ [] }
-    ∷ record { case = 9; figures = sheet-figures (loop-of-two 1) }
-    ∷ record { case = 10; figures = sheet-figures (loop-of-two 0) }
-    ∷ record { case = 11; figures = sheet-figures (loop-of-one 0) }
-    ∷ record { case = 11; figures = sheet-figures (loop-of-one 1) }
-    ∷ record { case = 12; figures = map pos (tab 4 (start example-10)) ∷ map pos (chain example-10 ∷ []) ∷ [] } ∷ []
+-- the raw waits of these wires together
+abbrev pub raw-total : Sheet → List ℕ → ℤ
+raw-total s [] = pos 0
+raw-total s (e ∷ es) = raw s e +ℤ raw-total s es
 
--- ---- what the paper says
+-- these wires, in this order, are a loop as it is shown at 6
+abbrev pub LoopOf : Net → List ℕ → Type 0
+LoopOf g [] = ⊥
+LoopOf g (e ∷ es) = Loop g e es
 
-unfoldable pub paper-says : List Case
-paper-says =
-    record { case = 1; figures = (negsuc 0 ∷ []) ∷ [] }
-    ∷ record { case = 2; figures = (negsuc 0 ∷ []) ∷ [] }
-    ∷ record { case = 3; figures = (negsuc 1 ∷ []) ∷ [] }
-    ∷ record { case = 4; figures = (pos 0 ∷ []) ∷ [] }
+-- ---- the table
+
+-- a case by its number: its figures by the definitions, and what the paper says they are; its net, and the loops of it that the paper
+-- shows, which is none where it is not refused
+pub record Case : Type 0 where
+  pub case : ℕ
+  pub gives : List (List ℤ)
+  pub says : List (List ℤ)
+  pub net : Net
+  pub loops : List (List ℕ)
+
+-- the figures are the paper's, and a list of wires is a loop that can be shown exactly where the paper shows it
+pub record Holds (c : Case) : Type 0 where
+  pub figures : c .gives ≡ c .says
+  pub shown : (l : List ℕ) → LoopOf (c .net) l ↔ Among (λ (shown : List ℕ). shown ≡ l) (c .loops)
+
+-- every case of a list holds
+infixr 20 _and_
+pub data EachHolds : List Case → Type 0 where
+  no-more : EachHolds []
+  _and_ : {c : Case} {l : List Case} → Holds c → EachHolds l → EachHolds (c ∷ l)
+
+-- the net of a case about one number
+abbrev pub no-net : Net
+no-net = record { nodes = 0; wires = 0; from = λ e. 0; to = λ e. 0; bound = λ e. pos 0 }
+
+abbrev pub plain-case : ℕ → ℤ → ℤ → Case
+plain-case case gives says = record { case = case; gives = (gives ∷ []) ∷ []; says = (says ∷ []) ∷ []; net = no-net; loops = [] }
+
+unfoldable pub table : List Case
+table =
+    -- "So −1 with N=4 gives −1, −4 gives −1, −5 gives −2, 3 gives 0"
+    plain-case 1 (floor (negsuc 0) 4) (negsuc 0)
+    ∷ plain-case 2 (floor (negsuc 3) 4) (negsuc 0)
+    ∷ plain-case 3 (floor (negsuc 4) 4) (negsuc 1)
+    ∷ plain-case 4 (floor (pos 3) 4) (pos 0)
     -- "1 by 16384 gives 0; −1 by 16384 gives −1; 3 by −16384 gives −2; −2^31 by −32,768 gives the word 2147483648"
-    ∷ record { case = 5; figures = (pos 0 ∷ []) ∷ [] }
-    ∷ record { case = 6; figures = (pos 4294967295 ∷ []) ∷ [] }
-    ∷ record { case = 7; figures = (pos 4294967294 ∷ []) ∷ [] }
-    ∷ record { case = 8; figures = (pos 2147483648 ∷ []) ∷ [] }
+    ∷ plain-case 5 (pos (scale (pos 16384) 1)) (pos 0)
+    ∷ plain-case 6 (pos (scale (pos 16384) 4294967295)) (pos 4294967295)
+    ∷ plain-case 7 (pos (scale (negsuc 16383) 3)) (pos 4294967294)
+    ∷ plain-case 8 (pos (scale (negsuc 32767) 2147483648)) (pos 2147483648)
     -- "Raw waits 4, −2; bounds 1, −1; starts 1, 0; taps 0, 2"; registers 1 and chain 1 as the listing prints them
-    ∷ record { case = 9; figures = (pos 0 ∷ []) ∷ (pos 4 ∷ negsuc 1 ∷ []) ∷ (pos 1 ∷ negsuc 0 ∷ []) ∷ (pos 1 ∷ pos 0 ∷ []) ∷ (pos 0 ∷ pos 2 ∷ []) ∷ (pos 1 ∷ pos 1 ∷ []) ∷ [] }
-    -- "raw waits 3, −1, bounds 0, −1: refused 6"
-    ∷ record { case = 10; figures = (pos 6 ∷ []) ∷ (pos 3 ∷ negsuc 0 ∷ []) ∷ (pos 0 ∷ negsuc 0 ∷ []) ∷ [] }
+    ∷ record {
+      case = 9;
+      gives = sheet-figures (loop-of-two 1);
+      says = (pos 0 ∷ []) ∷ (pos 4 ∷ negsuc 1 ∷ []) ∷ (pos 1 ∷ negsuc 0 ∷ []) ∷ (pos 1 ∷ pos 0 ∷ []) ∷ (pos 0 ∷ pos 2 ∷ []) ∷ (pos 1 ∷ pos 1 ∷ []) ∷ [];
+      net = net (sheet-of (loop-of-two 1));
+      loops = [];
+    }
+    -- "raw waits 3, −1, bounds 0, −1: refused 6, loop wires 0, 1, though the raw waits total 2"
+    ∷ record {
+      case = 10;
+      gives = (raw-total (sheet-of (loop-of-two 0)) (0 ∷ 1 ∷ []) ∷ []) ∷ sheet-figures (loop-of-two 0);
+      says = (pos 2 ∷ []) ∷ (pos 6 ∷ []) ∷ (pos 3 ∷ negsuc 0 ∷ []) ∷ (pos 0 ∷ negsuc 0 ∷ []) ∷ [];
+      net = net (sheet-of (loop-of-two 0));
+      loops = (0 ∷ 1 ∷ []) ∷ [];
+    }
     -- "no delay refused; one delay passes with tap 0"
-    ∷ record { case = 11; figures = (pos 6 ∷ []) ∷ (negsuc 0 ∷ []) ∷ (negsuc 0 ∷ []) ∷ [] }
-    ∷ record { case = 11; figures = (pos 0 ∷ []) ∷ (pos 0 ∷ []) ∷ (pos 0 ∷ []) ∷ (pos 0 ∷ []) ∷ (pos 0 ∷ []) ∷ (pos 0 ∷ pos 0 ∷ []) ∷ [] }
+    ∷ record {
+      case = 11;
+      gives = sheet-figures (loop-of-one 0);
+      says = (pos 6 ∷ []) ∷ (negsuc 0 ∷ []) ∷ (negsuc 0 ∷ []) ∷ [];
+      net = net (sheet-of (loop-of-one 0));
+      loops = (0 ∷ []) ∷ [];
+    }
+    ∷ record {
+      case = 11;
+      gives = sheet-figures (loop-of-one 1);
+      says = (pos 0 ∷ []) ∷ (pos 0 ∷ []) ∷ (pos 0 ∷ []) ∷ (pos 0 ∷ []) ∷ (pos 0 ∷ []) ∷ (pos 0 ∷ pos 0 ∷ []) ∷ [];
+      net = net (sheet-of (loop-of-one 1));
+      loops = [];
+    }
     -- "starts 0, 1, 2, 2; chain 2"
-    ∷ record { case = 12; figures = (pos 0 ∷ pos 1 ∷ pos 2 ∷ pos 2 ∷ []) ∷ (pos 2 ∷ []) ∷ [] } ∷ []
+    ∷ record {
+      case = 12;
+      gives = map pos (tab 4 (start example-10)) ∷ map pos (chain example-10 ∷ []) ∷ [];
+      says = (pos 0 ∷ pos 1 ∷ pos 2 ∷ pos 2 ∷ []) ∷ (pos 2 ∷ []) ∷ [];
+      net = example-10;
+      loops = [];
+    } ∷ []
+
+-- "the whole print is", "Case 10 prints `refused 6 wires 0 1`"
+pub record Printed : Type 0 where
+  pub case-9 : Prints (loop-of-two 1) print-9
+  pub case-10 : Prints (loop-of-two 0) print-10
 
 -- ---- run and compared, and here evaluated too
 

@@ -8,7 +8,7 @@ use lib.IntN.{ℤ, pos}
 use lib.Signed.{_<ℤ_}
 use Rattle.words.specs.Words.{turn}
 use Rattle.records.specs.Units.{channels, value}
-use Rattle.records.specs.Records.{at}
+use Rattle.records.specs.Records.{at, over}
 use Rattle.sheets.specs.Sheet.{Sheet, sheet-of, sheet-fault}
 use Rattle.sheets.specs.Sound.{Sound}
 use Rattle.folding.specs.Walks.{Loop, Meets}
@@ -23,8 +23,9 @@ use Rattle.planner.specs.Planning.{Planning}
 use Rattle.memory.specs.Memory.{size, leaving}
 use Rattle.cycle.specs.Cycle.{run}
 use Rattle.machine.specs.Stepping.{Clearing, Stepping}
+use Rattle.listings.specs.Listing.{Listing}
 use Rattle.demands.specs.Graph.{HasValues}
-use Rattle.demands.specs.Running.{Handed, Leaves, last-cycle, Runs}
+use Rattle.demands.specs.Running.{Handed, Leaves, last-cycle, Run, Admitted, Runs}
 
 -- ---- demand 1: "Each call ends in its result or one numbered refusal of document 01, given exactly when 01 says. A refusal changes no
 -- lent memory, but for an unfoldable sheet, whose loop is written at the head of the plan buffer."
@@ -83,9 +84,10 @@ pub record WellPlanned (s : Sheet) (p : Plan) : Type 0 where
   pub registers-are : p .registers ≡ registers s (λ u. node-in p u .start)
   pub chain-is : IsChain (net s) (p .chain)
 
-abbrev pub Among : (ℕ → Type 0) → List ℕ → Type 0
+-- some element of a list
+abbrev pub Among : {A : Type 0} → (A → Type 0) → List A → Type 0
 Among P [] = ⊥
-Among P (e ∷ es) = P e ⊎ Among P es
+Among P (a ∷ l) = P a ⊎ Among P l
 
 -- "and the loop shown proves it": whatever the retiming, some wire of the loop has a wait below 0
 pub record LoopProves (s : Sheet) (es : List ℕ) : Type 0 where
@@ -107,7 +109,7 @@ pub record Demand2 (b before : List ℕ) (number len : ℕ) (after : List ℕ) :
   pub taken : number ≡ 0 → plan-fault (take len after) ≡ 0
 
 abbrev pub Demand2Met : Type 0
-Demand2Met = (b before : List ℕ) (number len : ℕ) (after : List ℕ) → Bytes b → Planning b before number len after → Demand2 b before number len after
+Demand2Met = (b before : List ℕ) (number len : ℕ) (after : List ℕ) → Planning b before number len after → Demand2 b before number len after
 
 -- "All waits are nonnegative exactly when r(U) − r(V) ≤ c on every wire."
 abbrev pub WaitsByBounds : Type 0
@@ -136,10 +138,11 @@ Demand3Folds =
     × ((m : List ℕ) → size p ≤ length m → (hand : ℕ → List ℕ) (last : ℕ) → Handed s p xs hand last →
     Leaves s p (v .val) (λ t q. at (leaving p (run p m hand t)) q) last)
 
--- from a result 0 of the planner's: the plan bytes in the buffer, any streams, any lent memory, words and outputs that are long enough
+-- from a result 0 of the planner's: the plan bytes in the buffer, any streams, any lent memory, words and outputs that are long enough.
+-- There is a run that the relations `Clearing` and `Stepping` admit, and every one that they admit is as demanded
 abbrev pub Demand3 : Type 0
 Demand3 =
-    (b before : List ℕ) (len : ℕ) (after : List ℕ) → Bytes b → Planning b before 0 len after →
+    (b before : List ℕ) (len : ℕ) (after : List ℕ) → Planning b before 0 len after →
     let s = sheet-of b in
     let plan = take len after in
     let p = plan-read plan in
@@ -147,4 +150,12 @@ Demand3 =
     (v : HasValues s xs)
     × ((m : List ℕ) → size p ≤ length m → (hand lent : ℕ → List ℕ) →
     ((t : ℕ) → channels ≤ length (hand t)) → ((t : ℕ) → length (s .units) ≤ length (lent t)) → Handed s p xs hand last-cycle →
-    Runs plan s p m (v .val) hand lent)
+    ((r : Run) × Admitted plan m hand lent r) × ((r : Run) → Admitted plan m hand lent r → Runs s p (v .val) hand r))
+
+-- ---- the listing
+
+-- whatever a listing of the sheet b may answer and leave, with room for its plan and for the text, this text is put out
+abbrev pub Prints : List ℕ → List ℕ → Type 0
+Prints b text =
+    (plan out : List ℕ) (number len : ℕ) (left after : List ℕ) → plan-length b ≤ length plan → length text ≤ length out →
+    Listing b plan out number len left after → (number ≡ 0) × (len ≡ length text) × (after ≡ over text out)

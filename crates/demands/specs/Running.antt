@@ -1,7 +1,7 @@
 -- Runs of a plan from cleared memory: what the ports are handed, and which words leave. Assumes nothing.
 use mathlib.Core.Path.{_≡_}
 use mathlib.Core.List.{List}
-use Prim.Native.Nat.{ℕ, zero, suc, _+_, _*_, _-_, _<_, _≤_}
+use Prim.Native.Nat.{ℕ, suc, _+_, _*_, _-_, _<_, _≤_}
 use lib.ListN.{length}
 use lib.IntN.{natAbs}
 use Rattle.records.specs.Units.{op-port, word-before}
@@ -11,7 +11,7 @@ use Rattle.folding.specs.Folding.{depth-of}
 use Rattle.plans.specs.Plan.{Plan, node-in}
 use Rattle.memory.specs.Memory.{places, place}
 use Rattle.cycle.specs.Cycle.{result}
-use Rattle.machine.specs.Stepping.{clear-number, clear-memory, step-number, step-memory, step-output}
+use Rattle.machine.specs.Stepping.{Clearing, Stepping}
 use Rattle.demands.specs.Graph.{delayed}
 
 -- "In iteration l each port is handed sample l-r of its channel once l reaches its start r", in the cycles up to `last`.
@@ -34,21 +34,28 @@ pub record Leaves (s : Sheet) (p : Plan) (val out : ℕ → ℕ → ℕ) (last :
 
 -- ---- runs by the calls on plan bytes b: lent memory m, and at each cycle t the channels' words and a lent output
 
--- the memory before cycle t
-unfoldable pub memory : List ℕ → List ℕ → (ℕ → List ℕ) → (ℕ → List ℕ) → ℕ → List ℕ
-memory b m hand lent zero = clear-memory b m
-memory b m hand lent (suc t) = step-memory b (memory b m hand lent t) (hand t) (lent t)
-
 -- "stepped from cycle 0 on, to 4,294,967,294 at most"
 abbrev pub last-cycle : ℕ
 last-cycle = 4294967294
 
-pub record Runs (b : List ℕ) (s : Sheet) (p : Plan) (m : List ℕ) (val : ℕ → ℕ → ℕ) (hand lent : ℕ → List ℕ) : Type 0 where
-  pub clears : clear-number b m ≡ 0
-  pub steps : (t : ℕ) → t ≤ last-cycle → step-number b (memory b m hand lent t) (hand t) (lent t) ≡ 0
-  pub leaves : Leaves s p val (λ t q. at (step-output b (memory b m hand lent t) (hand t) (lent t)) q) last-cycle
+-- what clear answered, what step answered and put out at each cycle, and the memory before each
+pub record Run : Type 0 where
+  pub cleared : ℕ
+  pub number : ℕ → ℕ
+  pub out : ℕ → List ℕ
+  pub memory : ℕ → List ℕ
+
+-- the calls' contracts admit the run: memory is lent to clear, and from then on each step is lent what the call before it left
+pub record Admitted (b m : List ℕ) (hand lent : ℕ → List ℕ) (r : Run) : Type 0 where
+  pub clears : Clearing b m (r .cleared) (r .memory 0)
+  pub steps : (t : ℕ) → t ≤ last-cycle → Stepping b (r .memory t) (hand t) (lent t) (r .number t) (r .memory (suc t)) (r .out t)
+
+pub record Runs (s : Sheet) (p : Plan) (val : ℕ → ℕ → ℕ) (hand : ℕ → List ℕ) (r : Run) : Type 0 where
+  pub clears : r .cleared ≡ 0
+  pub steps : (t : ℕ) → t ≤ last-cycle → r .number t ≡ 0
+  pub leaves : Leaves s p val (λ t q. at (r .out t) q) last-cycle
   -- "place i holds the result begun at cycle t−1−i", and the word before where that is before cycle 0
   pub begun : (q : ℕ) → q < length (p .units) → (i : ℕ) → i < places p q → (t : ℕ) → t + suc i ≤ suc last-cycle →
-      place p (memory b m hand lent (t + suc i)) q i ≡ result p (memory b m hand lent t) (hand t) q
+      place p (r .memory (t + suc i)) q i ≡ result p (r .memory t) (hand t) q
   pub before : (q : ℕ) → q < length (p .units) → (i : ℕ) → i < places p q → (t : ℕ) → t ≤ i → t ≤ suc last-cycle →
-      place p (memory b m hand lent t) q i ≡ word-before
+      place p (r .memory t) q i ≡ word-before

@@ -1,4 +1,4 @@
 -- Laws.
 pub mod SaidLaws
-pub mod OneResult
 pub mod SheetPrint
+pub mod OneResult

@@ -6,6 +6,12 @@ use Rattle.planner.proofs.FigureLaws.{refused-none}
 use Rattle.planner.proofs.figures.live_in.Statement.{statement}
 use Rattle.planner.proofs.figures.live_in.Tie as tie
 
+zero-requires : tie.Need-zero-requires
+zero-requires c κs = search needs
+
+zero-requires-2 : tie.Need-zero-requires-2
+zero-requires-2 c κs = search needs
+
 judge-requires : tie.Need-judge-requires
 judge-requires c κs = search needs
 
@@ -27,4 +33,4 @@ returns-2 c = refused-none _ _ _ (sym (c .before .before .judge .ensures) ∙ c 
 pub live-in-spec : {M : Type 1} → statement M
 live-in-spec =
     tie.close
-    (tie.spec judge-requires enum-known-s live-judged-requires enum-told returns returns-2)
+    (tie.spec zero-requires zero-requires-2 judge-requires enum-known-s live-judged-requires enum-told returns returns-2)
