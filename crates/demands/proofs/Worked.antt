@@ -32,7 +32,7 @@ use Rattle.plans.specs.Plan.{plan-bytes}
 use Rattle.drawing.specs.PlanOf.{plan-of}
 use Rattle.demands.specs.Demands.{Among}
 use Rattle.demands.specs.Cases
-use Rattle.demands.specs.Cases.{loop-of-two, loop-of-one, example-10, LoopOf, Holds, EachHolds, no-more, _and_, no-net, plain-case, table, biquad}
+use Rattle.demands.specs.Cases.{loop-of-two, loop-of-one, example-10, LoopOf, Holds, Each, no-net, plain-case, table, biquad}
 
 -- ---- loops
 
@@ -100,11 +100,15 @@ loop-11 = record { closed = (lit< tt, refl, refl); once = (tt, tt); lowest = tt;
 
 -- ---- the table
 
+infixr 20 _and_
+_and_ : {A B : Type 0} → A → B → A × B
+a and b = (a, b)
+
 of-number : {case : ℕ} {gives says : ℤ} → (gives ∷ []) ∷ [] ≡ (says ∷ []) ∷ [] → Holds (plain-case case gives says)
 of-number same = record { figures = same; shown = no-loop no-net (unfold every in refl) }
 
 -- every case comes to what the paper says
-pub worked : EachHolds table
+pub worked : Each Holds table
 unfolding Cases.table Cases.sheet-figures Cases.loop-of-two Cases.loop-of-one Loops.tab Loops.every Loops.some-of Loops.total Loops.largest Loops.count Loops.lowest Loops.first Words.floor Words.residue Words.signed Words.sum Words.difference Words.scale Units.value Records.reading-fault Records.clashes Records.occupied Records.fed-once Sheet.sheet-of Sheet.sheet-faults Walks.minℤ Walks.better Walks.next Walks.row Walks.settled Walks.settles Walks.chain Walks.foldable Walks.deepest Walks.starts Folding.raw Folding.bound Folding.wait Folding.tap Lifetime.longest-wait Lifetime.falls Lifetime.live Lifetime.registers Plan.concat Plan.plan-bytes Plan.plan-read Judging.longest-tap Judging.figures-right Judging.plan-faults PlanOf.plan-of Planning.plan-number
 worked =
     of-number refl and of-number refl and of-number refl and of-number refl
@@ -114,7 +118,7 @@ worked =
     and record { figures = refl; shown = one-loop (net (sheet-of (loop-of-one 0))) (0 ∷ []) loop-11 (itself (net (sheet-of (loop-of-one 0))) refl) }
     and record { figures = refl; shown = no-loop (net (sheet-of (loop-of-one 1))) refl }
     and record { figures = refl; shown = no-loop example-10 refl }
-    and no-more
+    and tt
 
 -- ---- the biquad: registers 2, chain 3; starts 1, 2, 1, 2, 1, 1, 0, 1, 1; live counts 2, 2, 2, 1
 

@@ -85,11 +85,10 @@ pub record Holds (c : Case) : Type 0 where
   pub figures : c .gives ≡ c .says
   pub shown : (l : List ℕ) → LoopOf (c .net) l ↔ Among (λ (shown : List ℕ). shown ≡ l) (c .loops)
 
--- every case of a list holds
-infixr 20 _and_
-pub data EachHolds : List Case → Type 0 where
-  no-more : EachHolds []
-  _and_ : {c : Case} {l : List Case} → Holds c → EachHolds l → EachHolds (c ∷ l)
+-- every element of a list
+abbrev pub Each : {A : Type 0} → (A → Type 0) → List A → Type 0
+Each P [] = Unit {0}
+Each P (a ∷ l) = P a × Each P l
 
 -- the net of a case about one number
 abbrev pub no-net : Net
