@@ -1,4 +1,4 @@
--- What the nodes of a slot give, from the words at the inputs. Assumes nothing.
+-- Only passes between functions: what the nodes of a slot give, from the words at the inputs. Assumes nothing.
 use mathlib.Core.Path.{_≡_}
 use mathlib.Core.Bool.{Bool, cond}
 use mathlib.Core.List.{List}

@@ -1,4 +1,4 @@
--- The bytes of the first records of each sort in a sheet's plan. Assumes nothing.
+-- Only passes between functions: the bytes of the first records of each sort in a sheet's plan. Assumes nothing.
 use mathlib.Core.Path.{_≡_}
 use mathlib.Core.List.{List}
 use Prim.Native.Nat.{ℕ}

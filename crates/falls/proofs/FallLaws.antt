@@ -10,7 +10,8 @@ use lib.Signed.{_≤ℤ_, _<ℤ_}
 use Rattle.times.specs.declared.Iterations.{Iterations}
 use Rattle.words.proofs.Ints.{ints, sumℤ}
 use Rattle.records.specs.Records.{most-nodes}
-use Rattle.folding.specs.Walks.{Net, Walk, along, round}
+use Rattle.folding.specs.Walks.{Net, Walk, along}
+use Rattle.folding.specs.Round.{round}
 use Rattle.folding.proofs.RoundLaws.{Closed, round-wire, round-zero}
 use Rattle.rounds.specs.Rounds.{bytes-net, Wired}
 use Rattle.rounds.proofs.RowLaws.{closed}

@@ -15,7 +15,8 @@ use Rattle.times.specs.declared.Iterations.{Iterations}
 use Rattle.words.proofs.Ints.{ints, ltZ-true}
 use Rattle.times.specs.Times.{iterations-at}
 use Rattle.records.specs.Records.{most-nodes}
-use Rattle.folding.specs.Walks.{Net, round, settled}
+use Rattle.folding.specs.Walks.{Net, settled}
+use Rattle.folding.specs.Round.{round}
 use Rattle.rounds.specs.Rounds.{bytes-net, Wired}
 use Rattle.rounds.proofs.StepLaws.{Reached, number-set-same, number-set-other}
 use Rattle.rounds.proofs.RowLaws.{Rounded, rounded-more, stays-settled}

@@ -1,4 +1,5 @@
--- A walk whose total still falls, from the wires that the rounds chose: choices kept, and followed back. Assumes nothing.
+-- Only passes between functions: a walk whose total still falls, from the wires that the rounds chose; choices kept, and followed
+-- back. Assumes nothing.
 use mathlib.Core.Path.{_≡_}
 use mathlib.Core.List.{List, [], _∷_}
 use Prim.Native.Nat.{ℕ, zero, suc, _+_, _*_, _-_, _<_, _≤_}
@@ -7,7 +8,8 @@ use lib.IntN.{ℤ, _+ℤ_}
 use lib.Signed.{_≤ℤ_, _<ℤ_}
 use Rattle.records.specs.Records.{most-nodes}
 use Rattle.sheets.specs.Sheet.{sheet-format, wire-at}
-use Rattle.folding.specs.Walks.{Net, Walk, along, round}
+use Rattle.folding.specs.Walks.{Net, Walk, along}
+use Rattle.folding.specs.Round.{round}
 
 -- ---- choices
 

@@ -1,2 +1,2 @@
--- What a reader must believe of choices and of the walk that they give.
+-- Only passes between functions: choices, and the walk that they give.
 pub mod Choices

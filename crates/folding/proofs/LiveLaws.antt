@@ -10,7 +10,8 @@ use lib.Dec.{ltb, eqb}
 use borrow.Author.Tests.{eqb-true, eqb-false, eq-eqb, ne-eqb, lt-ltb, le-ltb, ltb-true, ltb-false}
 use Rattle.words.specs.Loops.{total, count}
 use Rattle.words.proofs.LoopLaws.{passed?, bool-ext, total-cong}
-use Rattle.folding.specs.Lifetime.{falls, offset}
+use Rattle.folding.specs.Lifetime.{falls}
+use Rattle.folding.specs.Offset.{offset}
 
 -- the remainder of a number below 2 n
 small-mod : (n z : ℕ) → z < n + n → ((z < n) × (z % n ≡ z)) ⊎ ((n ≤ z) × (z % n ≡ z - n))

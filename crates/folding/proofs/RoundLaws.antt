@@ -14,7 +14,8 @@ use lib.Signed.{leZ, _≤ℤ_, _<ℤ_, ≤ℤ-refl}
 use borrow.Author.Tests.{eqb-true, eq-eqb}
 use Rattle.words.proofs.Ints.{ints, sumℤ, difℤ, up-pos, down-pos, leZ-true, leZ-false, ≤ℤ-trans}
 use Rattle.words.proofs.LoopLaws.{passed?, every-at, every-not, length-tab, getD-tab}
-use Rattle.folding.specs.Walks.{Net, Walk, along, LeastIn, Least, Meets, minℤ, better, next, row, round, settled}
+use Rattle.folding.specs.Walks.{Net, Walk, along, LeastIn, Least, Meets, minℤ, better, next, row, settled}
+use Rattle.folding.specs.Round.{round}
 
 -- ---- the smaller of two
 

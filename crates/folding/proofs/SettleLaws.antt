@@ -11,7 +11,8 @@ use lib.IntN.{ℤ, negsuc}
 use lib.Signed.{_≤ℤ_}
 use Rattle.words.proofs.Ints.{up, down, ints, sumℤ, le-up}
 use Rattle.words.proofs.LoopLaws.{passed?}
-use Rattle.folding.specs.Walks.{Net, Walk, along, Meets, next, row, round, stays, settled, settles, chain}
+use Rattle.folding.specs.Walks.{Net, Walk, along, Meets, next, row, stays, settled, settles, chain}
+use Rattle.folding.specs.Round.{round}
 use Rattle.folding.proofs.RoundLaws.{Closed, settled-on, falls-at, round-met, round-nonpos, round-topmost}
 
 module _ (g : Net) where

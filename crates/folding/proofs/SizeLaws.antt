@@ -18,7 +18,8 @@ use Rattle.words.proofs.FloorLaws.{floor-up, floor-down}
 use Rattle.sheets.specs.Sheet.{Sheet, sheet-of, node-of, wire-of}
 use Rattle.sheets.specs.Sound.{Sound}
 use Rattle.sheets.proofs.SheetLaws.{Passed, counts-of, nodes-is, unit-parts, node-parts, wire-parts}
-use Rattle.folding.specs.Walks.{Walk, along, Loop, round, latest, deepest, start}
+use Rattle.folding.specs.Walks.{Walk, along, Loop, latest, deepest, start}
+use Rattle.folding.specs.Round.{round}
 use Rattle.folding.specs.Folding.{net, depth-of, raw, bound, wait, tap}
 use Rattle.folding.specs.Lifetime.{longest-wait, first-live, last-live, falls, live, registers}
 use Rattle.folding.proofs.RoundLaws.{round-met, round-nonpos}

@@ -12,7 +12,8 @@ use lib.IntN.{ℤ, pos, _+ℤ_, _-ℤ_, natAbs}
 use lib.Signed.{_≤ℤ_, pos-natAbs, yes-nonNeg}
 use Rattle.words.proofs.Ints.{up, down, ints, sumℤ, difℤ, up-pos, down-pos, ≤ℤ-trans, eq-up}
 use Rattle.words.proofs.LoopLaws.{passed?, getD-tab, length-tab}
-use Rattle.folding.specs.Walks.{Net, LeastIn, Least, Meets, minℤ, round, settled, settles, chain, latest, deepest, shift, starts, start}
+use Rattle.folding.specs.Walks.{Net, LeastIn, Least, Meets, minℤ, settled, settles, chain, latest, deepest, shift, starts, start}
+use Rattle.folding.specs.Round.{round}
 use Rattle.folding.specs.Latest.{Latest, Enough, IsChain}
 use Rattle.folding.proofs.RoundLaws.{Closed, min-left, min-right, min-cases, round-nonpos, round-least, settled-meets, settled-least, round-topmost, falls-at, round-below, round-met}
 

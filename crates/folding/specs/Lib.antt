@@ -3,3 +3,6 @@ pub mod Walks
 pub mod Latest
 pub mod Folding
 pub mod Lifetime
+-- Only passes between functions: one node's total after k rounds, and where a slot's first live cycle falls.
+pub mod Round
+pub mod Offset

@@ -30,11 +30,6 @@ live s r t = total (length (s .nodes)) (λ u. falls (s .fold) (first-live s u) (
 unfoldable pub registers : Sheet → (ℕ → ℕ) → ℕ
 registers s r = largest (s .fold) (live s r)
 
--- the first offset from cycle b that falls in slot t: in closed form m live cycles from b on count m / N in slot t, and one more where
--- this offset is below m mod N
-abbrev pub offset : ℕ → ℕ → ℕ → ℕ
-offset fold b t = (t + fold - b % fold) % fold
-
 -- ---- what the figure means
 
 -- the word of node u of iteration l leaves its unit at cycle Nl+u+P, and waits until it has been read for the last time

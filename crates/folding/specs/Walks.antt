@@ -87,10 +87,6 @@ unfoldable pub row : Net → ℕ → List ℤ
 row g zero = tab (g .nodes) (λ u. pos 0)
 row g (suc k) = next g (row g k)
 
--- the least total over walks of at most k wires from u
-abbrev pub round : Net → ℕ → ℕ → ℤ
-round g k u = getD (row g k) u (pos 0)
-
 -- the second row of totals is nowhere below the first
 abbrev pub stays : ℕ → List ℤ → List ℤ → Bool
 stays n d d′ = every n (λ u. leZ (getD d u (pos 0)) (getD d′ u (pos 0)))

@@ -1,4 +1,4 @@
--- What the records of a slot bring to the inputs. Assumes nothing.
+-- Only passes between functions: what the records of a slot bring to the inputs. Assumes nothing.
 use mathlib.Core.Path.{_≡_}
 use mathlib.Core.Bool.{Bool, cond, _&&_}
 use mathlib.Core.List.{List}

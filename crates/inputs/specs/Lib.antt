@@ -1,2 +1,2 @@
--- What a reader must believe of the words at the inputs.
+-- Only passes between functions: the words at the inputs.
 pub mod Inputs

@@ -1,4 +1,4 @@
--- What judging bytes as a plan answers, part by part, and what its parts ask. Assumes nothing.
+-- Only passes between functions: what judging bytes as a plan answers, part by part, and what its parts ask. Assumes nothing.
 use mathlib.Core.Path.{_≡_}
 use mathlib.Core.Bool.{Bool, true, not, _&&_}
 use mathlib.Core.List.{List}

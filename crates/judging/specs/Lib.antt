@@ -1,2 +1,2 @@
--- What a reader must believe of judging plans: what any bytes are answered.
+-- Only passes between functions: what judging any bytes as a plan answers.
 pub mod Answers

@@ -11,7 +11,7 @@ use lib.Dec.{ltb, eqb}
 use lib.ListN.{length, getD, set}
 use lib.Seq.{getD-set-same, getD-set-other}
 use borrow.Author.Tests.{eq-eqb, ne-eqb, le-ltb}
-use Rattle.folding.specs.Lifetime.{offset}
+use Rattle.folding.specs.Offset.{offset}
 use Rattle.folding.proofs.LiveLaws.{slot-iff, step-test}
 
 -- none of the first n counts is above m

@@ -19,7 +19,8 @@ use Rattle.sheets.specs.declared.Sheet as Head
 use Rattle.sheets.specs.Sheet.{sheet-of, node-of}
 use Rattle.folding.specs.Walks.{start, foldable}
 use Rattle.folding.specs.Folding.{net, depth-of}
-use Rattle.folding.specs.Lifetime.{longest-wait, first-live, last-live, falls, live, registers, offset}
+use Rattle.folding.specs.Lifetime.{longest-wait, first-live, last-live, falls, live, registers}
+use Rattle.folding.specs.Offset.{offset}
 use Rattle.folding.proofs.LiveLaws.{falls-closed}
 use Rattle.folding.proofs.FoldingLaws.{folds-well}
 use Rattle.folding.proofs.SizeLaws.{small-of, last-lt, registers-fit}

@@ -9,7 +9,8 @@ use lib.Dec.{ltb}
 use lib.ListN.{length, getD, set}
 use Rattle.words.specs.Loops.{total}
 use Rattle.sheets.specs.Sheet.{sheet-of}
-use Rattle.folding.specs.Lifetime.{first-live, offset}
+use Rattle.folding.specs.Lifetime.{first-live}
+use Rattle.folding.specs.Offset.{offset}
 use Rattle.lifetimes.specs.Counts.{wait-of, rest-of}
 use Rattle.lifetimes.proofs.CountedLaws.{Small, Counted, counted-none, counted-more, counted-small}
 use Rattle.lifetimes.proofs.LiveSums.{rest-le, rest-more}

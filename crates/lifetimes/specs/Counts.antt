@@ -1,4 +1,4 @@
--- Counts of live cycles by slot. Assumes nothing.
+-- Only passes between functions: counts of live cycles by slot. Assumes nothing.
 use mathlib.Core.Path.{_≡_}
 use mathlib.Core.Bool.{cond}
 use mathlib.Core.List.{List}
@@ -9,7 +9,8 @@ use Rattle.words.specs.Loops.{total}
 use Rattle.sheets.specs.Sheet.{sheet-of}
 use Rattle.folding.specs.Walks.{start}
 use Rattle.folding.specs.Folding.{net}
-use Rattle.folding.specs.Lifetime.{longest-wait, first-live, offset}
+use Rattle.folding.specs.Lifetime.{longest-wait, first-live}
+use Rattle.folding.specs.Offset.{offset}
 use Rattle.lifetimes.specs.declared.Live.{Live}
 
 -- the longest wait of node x, after the starts

@@ -1,2 +1,2 @@
--- What a reader must believe of live counts in code.
+-- Only passes between functions: live counts in code.
 pub mod Counts

@@ -29,7 +29,8 @@ use Rattle.planner.specs.Calls.{planned-number, planned-length}
 use Rattle.drawing.proofs.PassedPlan.{length-written, passes}
 use Rattle.planner.proofs.PlanningLaws.{at-zero, at-six, length-loop}
 use Rattle.text.specs.Texting.{wires-shown, loop-whole, wire-fault, loop-fault}
-use Rattle.listings.specs.Listing.{answer-text, said-fault, said-text}
+use Rattle.listings.specs.Listing.{answer-text}
+use Rattle.listings.specs.Said.{said-fault, said-text}
 
 -- the head of what lies over
 front : (w l : List ℕ) (n : ℕ) → n ≡ length w → (left : List ℕ) → left ≡ over w l → take n left ≡ w

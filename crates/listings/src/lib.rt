@@ -2,7 +2,8 @@
 ghost use mathlib.Core.Path.{_≡_};
 ghost use lib.ListN.{take};
 ghost use Rattle.text.specs.Texting.{texted-number, texted-length, Texting};
-ghost use Rattle.listings.specs.Listing.{said-fault, said-text, Listing};
+ghost use Rattle.listings.specs.Listing.{Listing};
+ghost use Rattle.listings.specs.Said.{said-fault, said-text};
 use planner::Planned;
 use text::Texted;
 use text::loop_text;

@@ -1,2 +1,2 @@
--- What a reader must believe of the loop that is shown, and of the steps that find it.
+-- Only passes between functions: the loop that is shown, and the steps that find it.
 pub mod Shown

@@ -1,5 +1,5 @@
--- The loop that is shown for an unfoldable net, and the steps that find it in a walk: the first node met again, the lowest wire, the turn.
--- Assumes nothing.
+-- Only passes between functions: the loop that is shown for an unfoldable net, and the steps that find it in a walk (the first node
+-- met again, the lowest wire, the turn). Assumes nothing.
 use mathlib.Core.Path.{_≡_}
 use mathlib.Core.List.{List, _∷_}
 use Prim.Native.Nat.{ℕ, suc, _+_, _*_, _<_, _≤_}

@@ -1,4 +1,4 @@
--- What the parts of a step ask of plan bytes, and where the places stand. Assumes nothing.
+-- Only passes between functions: what the parts of a step ask of plan bytes, and where the places stand. Assumes nothing.
 use mathlib.Core.Path.{_≡_}
 use mathlib.Core.List.{List}
 use Prim.Native.Nat.{ℕ, suc, _<_, _≤_}

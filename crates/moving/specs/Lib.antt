@@ -1,2 +1,2 @@
--- What a reader must believe of what clearing and a step write.
+-- Only passes between functions: what clearing and a step write.
 pub mod Moving

@@ -1,4 +1,4 @@
--- What the parts of a step that write leave behind. Assumes nothing.
+-- Only passes between functions: what the parts of a step that write leave behind. Assumes nothing.
 use mathlib.Core.List.{List, _∷_, _++_}
 use Prim.Native.Nat.{ℕ, suc, _+_, _-_}
 use lib.ListN.{length, take, drop, replicate}

@@ -1,4 +1,4 @@
--- What a writer of text does to the lent buffer. Assumes nothing.
+-- Only passes between functions: what a writer of text does to the lent buffer. Assumes nothing.
 use mathlib.Core.Path.{_≡_}
 use mathlib.Core.List.{List}
 use Prim.Native.Nat.{ℕ, _+_, _≤_}

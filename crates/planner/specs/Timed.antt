@@ -1,4 +1,4 @@
--- What is known of a sheet's retiming. Assumes nothing.
+-- Only passes between functions: what is known of a sheet's retiming. Assumes nothing.
 use mathlib.Core.Path.{_≡_}
 use mathlib.Core.Bool.{true}
 use mathlib.Core.List.{List}

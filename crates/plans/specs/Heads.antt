@@ -1,4 +1,5 @@
--- What a plan's header and a switch's joint are, as the code holds them, and what bytes of the right length are. Assumes nothing.
+-- Only passes between functions: what a plan's header and a switch's joint are, as the code holds them, and what bytes of the right
+-- length are. Assumes nothing.
 use mathlib.Core.Path.{_≡_}
 use mathlib.Core.List.{List}
 use Prim.Native.Nat.{ℕ, _+_}

@@ -1,4 +1,4 @@
--- What the readers of records answer: the first fault as its reason. Assumes nothing.
+-- Only passes between functions: what the readers of records answer, the first fault as its reason. Assumes nothing.
 use mathlib.Core.Bool.{Bool, cond, _&&_}
 use mathlib.Core.List.{List, [], _∷_}
 use Prim.Native.Nat.{ℕ, zero, suc, _+_, _*_, _≤_}

@@ -17,7 +17,8 @@ use Rattle.words.proofs.LoopLaws.{passed?, length-tab, getD-tab}
 use Rattle.times.specs.Times.{iterations-at}
 use Rattle.records.specs.Records.{most-nodes}
 use Rattle.sheets.specs.Sheet.{most-delays}
-use Rattle.folding.specs.Walks.{Net, row, round, settled, foldable}
+use Rattle.folding.specs.Walks.{Net, row, settled, foldable}
+use Rattle.folding.specs.Round.{round}
 use Rattle.folding.proofs.RoundLaws.{Closed, length-row, round-next, round-nonpos, settled-at, falls-at}
 use Rattle.folding.proofs.AlikeLaws.{better-same}
 use Rattle.folding.proofs.SettleLaws.{settled-later, settled-row, chain-first, round-low}

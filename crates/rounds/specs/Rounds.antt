@@ -1,5 +1,5 @@
--- The net that a sheet's wire records and their bounds say, read where they stand, and what the rounds over it are asked and answer.
--- Assumes nothing.
+-- Only passes between functions: the net that a sheet's wire records and their bounds say, read where they stand, and what the rounds
+-- over it are asked and answer. Assumes nothing.
 use mathlib.Core.Path.{_≡_}
 use mathlib.Core.Bool.{true}
 use mathlib.Core.List.{List}

@@ -1,4 +1,4 @@
--- What reading a sheet answers, and what its wires feed. Assumes nothing.
+-- Only passes between functions: what reading a sheet answers, and what its wires feed. Assumes nothing.
 use mathlib.Core.Path.{_≡_}
 use mathlib.Core.Bool.{true, not}
 use mathlib.Core.List.{List}

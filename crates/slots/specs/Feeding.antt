@@ -1,4 +1,4 @@
--- Inputs fed, as masks: mask 2q + i holds the slots in which input i of unit q is fed. Assumes nothing.
+-- Only passes between functions: inputs fed, as masks. Mask 2q + i holds the slots in which input i of unit q is fed. Assumes nothing.
 use mathlib.Core.Path.{_≡_}
 use mathlib.Core.Bool.{Bool, _&&_, _||_}
 use mathlib.Core.List.{List}

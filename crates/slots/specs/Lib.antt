@@ -1,3 +1,3 @@
--- What the masks of occupied slots and of inputs fed say.
+-- Only passes between functions: what the masks of occupied slots and of inputs fed say.
 pub mod Slots
 pub mod Feeding

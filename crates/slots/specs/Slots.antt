@@ -1,4 +1,5 @@
--- "A unit's occupied slots are one u32 mask; its ones are counted for the idle figure, clashes found by masks." Assumes nothing.
+-- Only passes between functions: occupied slots as masks. "A unit's occupied slots are one u32 mask; its ones are counted for the idle
+-- figure, clashes found by masks." Assumes nothing.
 use mathlib.Core.Path.{_≡_}
 use mathlib.Core.Bool.{true}
 use Prim.Native.Nat.{ℕ, _^_, _<_}

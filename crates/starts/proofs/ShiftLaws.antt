@@ -13,7 +13,8 @@ use Rattle.times.specs.declared.Iterations.{Iterations}
 use Rattle.words.proofs.FitLaws.{fits, dif-size}
 use Rattle.words.proofs.LoopLaws.{getD-tab}
 use Rattle.times.specs.Times.{iterations-at}
-use Rattle.folding.specs.Walks.{Net, minℤ, round, foldable, latest, deepest, start}
+use Rattle.folding.specs.Walks.{Net, minℤ, foldable, latest, deepest, start}
+use Rattle.folding.specs.Round.{round}
 use Rattle.folding.proofs.StartLaws.{start-is, deepest-met}
 use Rattle.folding.proofs.RoundLaws.{Closed, round-nonpos}
 use Rattle.folding.proofs.SettleLaws.{round-low}

@@ -1,2 +1,2 @@
--- What a reader must believe of the starts.
+-- Only passes between functions: the starts that totals of bounds say.
 pub mod Starts

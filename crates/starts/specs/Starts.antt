@@ -1,4 +1,4 @@
--- The starts that totals of bounds say. Assumes nothing.
+-- Only passes between functions: the starts that totals of bounds say. Assumes nothing.
 use mathlib.Core.Path.{_≡_}
 use mathlib.Core.Bool.{true}
 use mathlib.Core.List.{List}

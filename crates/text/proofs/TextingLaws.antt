@@ -17,7 +17,8 @@ use Rattle.judging.specs.declared.PlanRead.the-variants as P
 use Rattle.judging.specs.Answers.{plan-answer}
 use Rattle.judging.proofs.AnswerLaws.{why-number, got-fine, got-whole, got-counts}
 use Rattle.lines.specs.Text.{plan-text}
-use Rattle.text.specs.Texting.{longest, Texting, Got}
+use Rattle.text.specs.Texting.{longest, Texting}
+use Rattle.text.specs.Got.{Got}
 
 texting-fault : (fault : ℕ) (text o : List ℕ) (n len : ℕ) → n ≡ fault → 0 < n → len ≡ 0 → Texting fault text o n len o
 texting-fault fault text o zero len e h z = absurd (omega arith)

@@ -7,10 +7,7 @@ use lib.Dec.{ltb, leb, eqb}
 use lib.ListN.{length}
 use Rattle.words.specs.Loops.{first, unless, _then_}
 use Rattle.records.specs.Records.{at, over, between, most-units, most-nodes, most-wires, record-fault}
-use Rattle.plans.specs.declared.Plan.{Plan}
 use Rattle.plans.specs.Plan.{loop-mark, loop-length, loop-read}
-use Rattle.plans.specs.Heads.{Whole}
-use Rattle.plans.specs.Judging.{plan-fault}
 use Rattle.lines.specs.Text.{line-most}
 use Rattle.text.specs.declared.Texted.{Texted}
 use Rattle.text.specs.declared.Texted.the-variants.{Done, Length, Mark, Range, Clash, Unfed, Short, Figures}
@@ -75,10 +72,3 @@ wire-fault b i = record-fault b (loop-length * i) loop-mark (ltb (wire-at b i) m
 -- the length, "then each record in file order, mark before range, first fault wins"
 unfoldable pub loop-fault : List ℕ → ℕ
 loop-fault b = unless (loop-whole b) 1 then first (wires-shown b) (wire-fault b)
-
--- ---- a plan that is got: its header, and at most as many records as there may be
-
-pub record Got (b : List ℕ) (p : Plan) : Type 0 where
-  pub whole : Whole b p
-  pub fine : plan-fault b ≡ 0
-  pub few : p .units + p .nodes + p .wires ≤ most-units + most-nodes + most-wires

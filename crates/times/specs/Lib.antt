@@ -1,2 +1,2 @@
--- What a reader must believe of cycles and iterations: the numbers that they hold.
+-- Only passes between functions: the numbers that cycles and iterations hold.
 pub mod Times

@@ -1,4 +1,5 @@
--- The test that two waits are equal, and the numbers in arrays of cycles and of iterations. Assumes nothing.
+-- Only passes between functions: the test that two waits are equal, and the numbers in arrays of cycles and of iterations. Assumes
+-- nothing.
 use mathlib.Core.Bool.{Bool, false}
 use mathlib.Core.List.{List}
 use Prim.Native.Nat.{ℕ}

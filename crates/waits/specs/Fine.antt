@@ -1,4 +1,4 @@
--- What the functions on waits ask of a sheet's bytes and of starts. Assumes nothing.
+-- Only passes between functions: what the functions on waits ask of a sheet's bytes and of starts. Assumes nothing.
 use mathlib.Core.Path.{_≡_}
 use mathlib.Core.Bool.{true, cond}
 use mathlib.Core.List.{List}

@@ -1,2 +1,2 @@
--- What a reader must believe of waits in code: what is asked of a sheet and of starts, and what is given.
+-- Only passes between functions: what is asked of a sheet and of starts, and what waits are given.
 pub mod Fine

@@ -1,4 +1,5 @@
--- What a reader must believe of words: their arithmetic, masks of slots, and what a loop over 0, 1, .., n − 1 gives.
-pub mod Loops
-pub mod Masks
+-- What a reader must believe of words: their arithmetic, and what a loop over 0, 1, .., n − 1 gives.
 pub mod Words
+pub mod Loops
+-- Only passes between functions: masks of slots.
+pub mod Masks

@@ -1,5 +1,5 @@
--- "A unit's occupied slots are one u32 mask; its ones are counted for the idle figure, clashes found by masks."
--- Assumes nothing.
+-- Only passes between functions: masks of slots. "A unit's occupied slots are one u32 mask; its ones are counted for the idle figure,
+-- clashes found by masks." Assumes nothing.
 use mathlib.Core.Bool.{Bool}
 use Prim.Native.Nat.{ℕ, _/_, _%_, _^_}
 use lib.Bits.{bitOr}

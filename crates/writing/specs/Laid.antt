@@ -1,4 +1,4 @@
--- Bytes laid over a lent slice from a place on; the rest is kept. Assumes nothing.
+-- Only passes between functions: bytes laid over a lent slice from a place on; the rest is kept. Assumes nothing.
 use mathlib.Core.List.{List, [], _∷_}
 use Prim.Native.Nat.{ℕ, _+_}
 use lib.ListN.{set}

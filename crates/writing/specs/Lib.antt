@@ -1,2 +1,2 @@
--- What a reader must believe of writing: bytes laid over a lent slice.
+-- Only passes between functions: bytes laid over a lent slice.
 pub mod Laid

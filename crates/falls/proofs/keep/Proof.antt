@@ -9,7 +9,8 @@ use borrow.Author.Needs.{needs}
 use lib.ListN.{length, length-set}
 use Rattle.times.specs.Times.{iterations-at}
 use Rattle.records.specs.Records.{most-nodes}
-use Rattle.folding.specs.Walks.{better, round, settled, foldable}
+use Rattle.folding.specs.Walks.{better, settled, foldable}
+use Rattle.folding.specs.Round.{round}
 use Rattle.folding.proofs.RoundLaws.{round-zero}
 use Rattle.rounds.specs.Rounds.{bytes-net}
 use Rattle.rounds.proofs.StepLaws.{Reached, reached-less, reached-past}

@@ -12,7 +12,8 @@ use borrow.Author.Count.{below-more}
 use lib.ListN.{length, length-set}
 use Rattle.times.specs.Times.{iterations-at}
 use Rattle.records.specs.Records.{most-nodes}
-use Rattle.folding.specs.Walks.{better, round, settled}
+use Rattle.folding.specs.Walks.{better, settled}
+use Rattle.folding.specs.Round.{round}
 use Rattle.folding.proofs.RoundLaws.{round-zero}
 use Rattle.rounds.specs.Rounds.{bytes-net}
 use Rattle.rounds.proofs.StepLaws.{Reached, reached-less, reached-past, Fell, fell-more}
