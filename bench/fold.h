@@ -1,6 +1,7 @@
 /* The same four calls written for speed in C: what the benchmark holds the library's times against.
 
-   They keep the whole contract of include/gongperch.h, every refusal in its order and every call judging its bytes anew. */
+   They keep the whole contract of include/gongperch.h, every refusal in its order and every call judging its bytes anew. The
+   benchmark builds them by gcc and by clang, with the compiler's name in place of `fold`. */
 #ifndef FOLD_H
 #define FOLD_H
 

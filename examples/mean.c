@@ -4,10 +4,25 @@
    numbers. With samples/mean.sheet and the angles 315 and 45 the adder's mean is 0: the seam of the full turn is no matter. */
 #include "../include/gongperch.h"
 
+#include <errno.h>
 #include <stdio.h>
 #include <stdlib.h>
+#include <string.h>
 
 static uint8_t sheet[GONGPERCH_SHEET_MAX + 1], plan[GONGPERCH_PLAN_MAX];
+
+/* Reads the sheet; where that fails, says of which file and why, and stops. */
+static size_t read_sheet(const char *path)
+{
+    FILE *file = fopen(path, "rb");
+    size_t length = file == NULL ? 0 : fread(sheet, 1, sizeof sheet, file);
+    if (file == NULL || ferror(file)) {
+        fprintf(stderr, "mean: %s: %s\n", path, strerror(errno));
+        exit(2);
+    }
+    fclose(file);
+    return length;
+}
 
 static int refused(uint32_t answer, uint64_t written)
 {
@@ -35,13 +50,11 @@ static int run(size_t plan_len, uint32_t *memory, size_t words, const uint32_t *
 
 int main(int argc, char **argv)
 {
-    FILE *file = argc > 2 ? fopen(argv[1], "rb") : NULL;
-    if (file == NULL) {
+    if (argc < 3) {
         fprintf(stderr, "usage: mean SHEET CYCLES ANGLE..\n");
         return 2;
     }
-    size_t sheet_len = fread(sheet, 1, sizeof sheet, file);
-    fclose(file);
+    size_t sheet_len = read_sheet(argv[1]);
     uint32_t channels[GONGPERCH_CHANNELS] = {0};
     for (int i = 3; i < argc && i < 3 + GONGPERCH_CHANNELS; i++) {
         channels[i - 3] = (uint32_t)(int64_t)(strtod(argv[i], NULL) / 360.0 * 4294967296.0);

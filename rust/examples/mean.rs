@@ -1,6 +1,6 @@
 //! Plans a sheet and runs it: mean SHEET CYCLES ANGLE..
 //!
-//! The same program as examples/mean.c, and it prints the same.
+//! The same program as examples/mean.c, and it prints the same; behind the words of a file's error Rust sets its number.
 use gongperch::{clear, memory_words, plan, step, Cleared, Needed, Planned, Stepped};
 
 fn word_of(degrees: &str) -> u32 {
@@ -30,13 +30,18 @@ fn run(plan: &[u8], channels: &[u32], cycles: u32) -> Result<(), u32> {
     Ok(())
 }
 
+fn stop(why: &str) -> ! {
+    eprintln!("{why}");
+    std::process::exit(2);
+}
+
 fn main() {
     let args: Vec<String> = std::env::args().skip(1).collect();
-    let [path, cycles, angles @ ..] = args.as_slice() else {
-        eprintln!("usage: mean SHEET CYCLES ANGLE..");
-        std::process::exit(2);
+    let (path, cycles, angles) = match args.as_slice() {
+        [path, cycles, angles @ ..] => (path, cycles, angles),
+        _ => stop("usage: mean SHEET CYCLES ANGLE.."),
     };
-    let sheet = std::fs::read(path).expect("the sheet can be read");
+    let sheet = std::fs::read(path).unwrap_or_else(|why| stop(&format!("mean: {path}: {why}")));
     let mut channels = [0; gongperch::CHANNELS];
     for (channel, angle) in channels.iter_mut().zip(angles) {
         *channel = word_of(angle);

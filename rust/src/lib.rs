@@ -10,8 +10,14 @@
 //! // The mean of channels 0 and 1, over the seam of the full turn.
 //! let sheet = include_bytes!(concat!(env!("CARGO_MANIFEST_DIR"), "/../samples/mean.sheet"));
 //! let mut buffer = [0; gongperch::PLAN_MAX];
-//! let Planned::Done(plan) = plan(sheet, &mut buffer) else { panic!("mean.sheet folds") };
-//! let Needed::Words(words) = memory_words(plan) else { panic!("the planner's plan is taken") };
+//! let plan = match plan(sheet, &mut buffer) {
+//!     Planned::Done(plan) => plan,
+//!     refused => panic!("mean.sheet folds, but {refused:?}"),
+//! };
+//! let words = match memory_words(plan) {
+//!     Needed::Words(words) => words,
+//!     refused => panic!("the planner's plan is taken, but {refused:?}"),
+//! };
 //! let mut memory = vec![0; words];
 //! assert_eq!(clear(plan, &mut memory), Cleared::Done);
 //!
@@ -197,8 +203,10 @@ impl Stepped {
 /// assert_eq!(plan(b"", &mut buffer), Planned::Refused(Fault::Length));
 ///
 /// let looped = include_bytes!(concat!(env!("CARGO_MANIFEST_DIR"), "/../samples/unfoldable.sheet"));
-/// let Planned::Unfoldable(wires) = plan(looped, &mut buffer) else { panic!("it doesn't fold") };
-/// assert_eq!(wires.numbers().collect::<Vec<_>>(), [0, 1]);
+/// match plan(looped, &mut buffer) {
+///     Planned::Unfoldable(wires) => assert_eq!(wires.numbers().collect::<Vec<_>>(), [0, 1]),
+///     other => panic!("it doesn't fold, but {other:?}"),
+/// }
 ///
 /// assert_eq!(plan(looped, &mut []), Planned::TooShort(57));
 /// ```
