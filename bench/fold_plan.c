@@ -132,7 +132,8 @@ static int relax(const struct view *v, struct work *w)
 static unsigned find_loop(const struct view *v, const struct work *w, uint8_t *loop)
 {
     static const int16_t none = -1;
-    int16_t least[NODES + 1][NODES] = {{0}}, choice[NODES + 1][NODES];
+    int16_t least[NODES + 1][NODES], choice[NODES + 1][NODES];
+    memset(least[0], 0, sizeof least[0]);
     for (unsigned k = 1; k <= v->nodes; k++) {
         memcpy(least[k], least[k - 1], sizeof least[k]);
         for (unsigned n = 0; n < v->nodes; n++) {
