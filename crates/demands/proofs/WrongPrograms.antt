@@ -42,7 +42,7 @@ use Rattle.cycle.proofs.RunLaws.{older}
 use Rattle.cycle.proofs.ResultLaws.{switch-read}
 use Rattle.machine.proofs.SteppingLaws.{step-zero, step-does, output-is}
 use Rattle.demands.specs.Cases
-use Rattle.demands.specs.Cases.{loop-of-two}
+use Rattle.demands.specs.Cases.{loop-of-two, loop-of-one}
 use Rattle.demands.proofs.DemandTwo.{demand-2}
 use Rattle.demands.proofs.Worked.{biquad-plan}
 
@@ -58,9 +58,24 @@ case-9-number = refl
 pub no-constant-refusal : (number len : ℕ) (after : List ℕ) → Planning (loop-of-two 1) room number len after → number ≡ 0
 no-constant-refusal number len after p = p .number-is ∙ case-9-number
 
--- one plan for all sheets: no length and buffer are admitted for two sheets whose plans are not of one length
-pub no-plan-for-all : (b b′ before before′ : List ℕ) (len : ℕ) (after : List ℕ) → Planning b before 0 len after → Planning b′ before′ 0 len after → plan-length b ≡ plan-length b′
-no-plan-for-all b b′ before before′ len after p p′ = sym (p .fixed (λ six. omega arith) .0) ∙ p′ .fixed (λ six. omega arith) .0
+-- one plan for all sheets: of two sheets that pass, and whose plans are not of one length, no length and buffer are admitted on both
+pub no-plan-for-all : (b b′ before before′ : List ℕ) (n n′ len : ℕ) (after : List ℕ) → plan-number b (length before) ≡ 0 → plan-number b′ (length before′) ≡ 0 →
+    ¬ (plan-length b ≡ plan-length b′) → Planning b before n len after → Planning b′ before′ n′ len after → ⊥
+no-plan-for-all b b′ before before′ n n′ len after passes passes′ differ p p′ =
+    let e : n ≡ 0 = p .number-is ∙ passes in
+    let e′ : n′ ≡ 0 = p′ .number-is ∙ passes′ in
+    let l : len ≡ plan-length b = p .fixed (λ six. omega arith) .0 ∙ (rw e refl) in
+    let l′ : len ≡ plan-length b′ = p′ .fixed (λ six. omega arith) .0 ∙ (rw e′ refl) in
+    differ (sym l ∙ l′)
+
+-- as cases 9 and 11 are
+case-11-number : plan-number (loop-of-one 1) (length room) ≡ 0
+unfolding room Cases.loop-of-one Loops.tab Loops.every Loops.some-of Loops.total Loops.largest Loops.count Loops.lowest Loops.first Words.floor Words.residue Words.signed Words.sum Words.difference Words.scale Units.value Records.reading-fault Records.clashes Records.occupied Records.fed-once Sheet.sheet-of Sheet.sheet-faults Walks.minℤ Walks.better Walks.next Walks.row Walks.settled Walks.settles Walks.chain Walks.foldable Walks.deepest Walks.starts Folding.raw Folding.bound Folding.wait Folding.tap Lifetime.longest-wait Lifetime.falls Lifetime.live Lifetime.registers Plan.concat Plan.plan-bytes Plan.plan-read Judging.longest-tap Judging.figures-right Judging.plan-faults PlanOf.plan-of Planning.plan-number
+case-11-number = refl
+
+pub no-plan-for-9-and-11 : (n n′ len : ℕ) (after : List ℕ) → Planning (loop-of-two 1) room n len after → Planning (loop-of-one 1) room n′ len after → ⊥
+unfolding Cases.loop-of-two Cases.loop-of-one
+no-plan-for-9-and-11 n n′ len after = no-plan-for-all (loop-of-two 1) (loop-of-one 1) room room n n′ len after case-9-number case-11-number (λ same. omega arith)
 
 -- a step that does nothing: where step answers 0, no memory is admitted that it left as it was
 pub step-moves : (b m c o : List ℕ) (out : List ℕ) → Stepping b m c o 0 m out → ⊥
