@@ -53,37 +53,24 @@ number-of : (b : List ℕ) (room : ℕ) (folds : Bool) → sheet-fault b ≡ 0 �
 unfolding plan-number
 number-of b room folds fine is fits = rw (fine, le-leb (plan-length b) room fits, is) refl
 
--- ---- case 9
+-- both sheets are without fault; case 9's folds, and the plan that 01 prints is the one that it has; case 10's does not fold
+pub record Computed : Type 0 where
+  pub fine-9 : sheet-fault (loop-of-two 1) ≡ 0
+  pub folds-9 : foldable (net (sheet-of (loop-of-two 1))) ≡ true
+  pub plan-9 : plan-of (sheet-of (loop-of-two 1)) ≡ plan-read case-9
+  pub fine-10 : sheet-fault (loop-of-two 0) ≡ 0
+  pub folds-10 : foldable (net (sheet-of (loop-of-two 0))) ≡ false
 
-fine-9 : sheet-fault (loop-of-two 1) ≡ 0
+pub computed : Computed
 unfolding Cases.loop-of-two Loops.tab Loops.every Loops.some-of Loops.total Loops.largest Loops.count Loops.lowest Loops.first Words.floor Words.residue Words.signed Records.reading-fault Records.clashes Records.occupied Records.fed-once Sheet.sheet-of Sheet.sheet-faults Walks.minℤ Walks.better Walks.next Walks.row Walks.settled Walks.settles Walks.chain Walks.foldable Walks.deepest Walks.starts Folding.raw Folding.bound Folding.wait Folding.tap Lifetime.longest-wait Lifetime.falls Lifetime.live Lifetime.registers Plan.concat Plan.plan-bytes Plan.plan-read Judging.longest-tap Judging.figures-right Judging.plan-faults PlanOf.plan-of
-fine-9 = refl
-
-folds-9 : foldable (net (sheet-of (loop-of-two 1))) ≡ true
-unfolding Cases.loop-of-two Loops.tab Loops.every Loops.some-of Loops.total Loops.largest Loops.count Loops.lowest Loops.first Words.floor Words.residue Words.signed Records.reading-fault Records.clashes Records.occupied Records.fed-once Sheet.sheet-of Sheet.sheet-faults Walks.minℤ Walks.better Walks.next Walks.row Walks.settled Walks.settles Walks.chain Walks.foldable Walks.deepest Walks.starts Folding.raw Folding.bound Folding.wait Folding.tap Lifetime.longest-wait Lifetime.falls Lifetime.live Lifetime.registers Plan.concat Plan.plan-bytes Plan.plan-read Judging.longest-tap Judging.figures-right Judging.plan-faults PlanOf.plan-of
-folds-9 = refl
-
--- the plan that 01 prints is the sheet's
-plan-9 : plan-of (sheet-of (loop-of-two 1)) ≡ plan-read case-9
-unfolding Cases.loop-of-two Loops.tab Loops.every Loops.some-of Loops.total Loops.largest Loops.count Loops.lowest Loops.first Words.floor Words.residue Words.signed Records.reading-fault Records.clashes Records.occupied Records.fed-once Sheet.sheet-of Sheet.sheet-faults Walks.minℤ Walks.better Walks.next Walks.row Walks.settled Walks.settles Walks.chain Walks.foldable Walks.deepest Walks.starts Folding.raw Folding.bound Folding.wait Folding.tap Lifetime.longest-wait Lifetime.falls Lifetime.live Lifetime.registers Plan.concat Plan.plan-bytes Plan.plan-read Judging.longest-tap Judging.figures-right Judging.plan-faults PlanOf.plan-of
-plan-9 = refl
-
--- ---- case 10
-
-fine-10 : sheet-fault (loop-of-two 0) ≡ 0
-unfolding Cases.loop-of-two Loops.tab Loops.every Loops.some-of Loops.total Loops.largest Loops.count Loops.lowest Loops.first Words.floor Words.residue Words.signed Records.reading-fault Records.clashes Records.occupied Records.fed-once Sheet.sheet-of Sheet.sheet-faults Walks.minℤ Walks.better Walks.next Walks.row Walks.settled Walks.settles Walks.chain Walks.foldable Walks.deepest Walks.starts Folding.raw Folding.bound Folding.wait Folding.tap Lifetime.longest-wait Lifetime.falls Lifetime.live Lifetime.registers Plan.concat Plan.plan-bytes Plan.plan-read Judging.longest-tap Judging.figures-right Judging.plan-faults PlanOf.plan-of
-fine-10 = refl
-
-folds-10 : foldable (net (sheet-of (loop-of-two 0))) ≡ false
-unfolding Cases.loop-of-two Loops.tab Loops.every Loops.some-of Loops.total Loops.largest Loops.count Loops.lowest Loops.first Words.floor Words.residue Words.signed Records.reading-fault Records.clashes Records.occupied Records.fed-once Sheet.sheet-of Sheet.sheet-faults Walks.minℤ Walks.better Walks.next Walks.row Walks.settled Walks.settles Walks.chain Walks.foldable Walks.deepest Walks.starts Folding.raw Folding.bound Folding.wait Folding.tap Lifetime.longest-wait Lifetime.falls Lifetime.live Lifetime.registers Plan.concat Plan.plan-bytes Plan.plan-read Judging.longest-tap Judging.figures-right Judging.plan-faults PlanOf.plan-of
-folds-10 = refl
+computed = record { fine-9 = refl; folds-9 = refl; plan-9 = refl; fine-10 = refl; folds-10 = refl }
 
 pub printed : Printed
 printed = record {
   case-9 = prints (loop-of-two 1) print-9 (λ plan out number len left after room x.
-      let done = x .planned .number-is ∙ number-of (loop-of-two 1) (length plan) true fine-9 folds-9 room in
-      listed-plan (loop-of-two 1) plan out number len left after x done ∙ ap plan-text plan-9 ∙ printed-9);
+      let done = x .planned .number-is ∙ number-of (loop-of-two 1) (length plan) true (computed .fine-9) (computed .folds-9) room in
+      listed-plan (loop-of-two 1) plan out number len left after x done ∙ ap plan-text (computed .plan-9) ∙ printed-9);
   case-10 = prints (loop-of-two 0) print-10 (λ plan out number len left after room x.
-      let six = x .planned .number-is ∙ number-of (loop-of-two 0) (length plan) false fine-10 folds-10 room in
+      let six = x .planned .number-is ∙ number-of (loop-of-two 0) (length plan) false (computed .fine-10) (computed .folds-10) room in
       listed-loop (loop-of-two 0) plan out number len left after x six ∙ ap loop-text (sym (only-loop-10 _ (x .planned .shown six .loop))) ∙ printed-10);
 }

@@ -1,5 +1,5 @@
 -- The table of worked cases, computed from the definitions, with the loops of each; the biquad's plan. Assumes nothing.
-use mathlib.Core.Path.{_≡_, refl, sym, subst}
+use mathlib.Core.Path.{_≡_, refl, subst}
 use mathlib.Core.Logic.{_↔_, inl, inr}
 use mathlib.Core.Bool.{true}
 use mathlib.Core.List.{List, [], _∷_}
@@ -37,7 +37,7 @@ use Rattle.demands.specs.Cases.{loop-of-two, loop-of-one, example-10, Lo
 -- ---- loops
 
 -- "r(U) − r(V) ≤ c on every wire", tested wire by wire, of the starts
-abbrev pub meeting : Net → ℕ → ℤ
+abbrev meeting : Net → ℕ → ℤ
 meeting g u = pos (start g u)
 
 met : (g : Net) → every (g .wires) (λ e. leZ (meeting g (g .from e) -ℤ meeting g (g .to e)) (g .bound e)) ≡ true → Meets g (meeting g)
