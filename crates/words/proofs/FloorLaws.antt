@@ -1,18 +1,16 @@
 -- Laws of the floor: it is the largest q with n q at most z, and what the machine's division and shift give is the floor.
 -- Assumes nothing.
 use mathlib.Core.Path.{_≡_, refl, ap, _∙_}
-use mathlib.Core.Bool.{true, false, true≢false}
 use Prim.Native.Nat.{ℕ, zero, suc, _*_, _/_, _<_, _≤_}
 use native.Mathlib.Nat.{le-div-iff-mul-le, div-lt-iff-lt-mul, div-le-self, mul-comm, le-refl, le-trans, lt-of-le-of-lt}
 use native.Mathlib.Omega.{arith}
 use lib.IntN.{ℤ, pos, negsuc, negℤ, _-ℤ_, _*ℤ_}
-use lib.Signed.{mag, ltZ, quotZ, shrZ, _≤ℤ_}
-use borrow.Author.Tests.{ltb-true}
+use lib.Signed.{mag, quotZ, shrZ, _≤ℤ_, _<ℤ_}
 use mir.Syntax.{Width}
 use mir.Val.{SFits}
 use Rattle.words.specs.Words.{floor}
 use Rattle.words.proofs.FitLaws.{fits, fits-up}
-use Rattle.words.proofs.Ints.{up, down, le-up, up-le, up-eq, timesℤ, difℤ}
+use Rattle.words.proofs.Ints.{up, down, le-up, up-le, lt-up, up-eq, timesℤ, difℤ}
 
 pub floor-up : (n : ℕ) → 0 < n → (q z : ℤ) → (pos n *ℤ q) ≤ℤ z → q ≤ℤ floor z n
 unfolding floor up down
@@ -76,12 +74,12 @@ pub mag-quot : (z : ℤ) (n : ℕ) → mag (quotZ z (pos n)) ≤ mag z
 mag-quot (pos a) n = div-le-self a n
 mag-quot (negsuc a) n = mag-neg (suc a / n) a (div-le-self (suc a) n)
 
-pub quot-floor : (z : ℤ) (n : ℕ) → ltZ z (pos 0) ≡ false → quotZ z (pos n) ≡ floor z n
+pub quot-floor : (z : ℤ) (n : ℕ) → pos 0 ≤ℤ z → quotZ z (pos n) ≡ floor z n
 unfolding floor
 quot-floor (pos a) n h = refl
-quot-floor (negsuc a) n h = absurd (true≢false h)
+quot-floor (negsuc a) n h = absurd (h .le)
 
-pub mirror-floor : (z : ℤ) (n : ℕ) → ltZ z (pos 0) ≡ true → negsuc 0 -ℤ quotZ (negsuc 0 -ℤ z) (pos n) ≡ floor z n
-unfolding floor
-mirror-floor (pos a) n h = absurd (let l = ltb-true a 0 h in omega arith)
+pub mirror-floor : (z : ℤ) (n : ℕ) → z <ℤ pos 0 → negsuc 0 -ℤ quotZ (negsuc 0 -ℤ z) (pos n) ≡ floor z n
+unfolding floor up down
+mirror-floor (pos a) n h = absurd (omega (arith, lt-up h))
 mirror-floor (negsuc a) n h = ap (λ (y : ℤ). negsuc 0 -ℤ quotZ y (pos n)) (mirror-neg a) ∙ mirror-pos (a / n)

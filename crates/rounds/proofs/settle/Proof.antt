@@ -53,10 +53,12 @@ end-at-requires c κs = omega (arith, c .before .before .before .before .before 
 end-at-requires-2 : tie.Need-end-at-requires-2 Inv-loop μ-loop
 end-at-requires-2 c κs = omega (arith, c .before .before .before .before .before .before .pre .0 .inside, c .before .if1 .taken)
 
+-- an end is a node, whichever of the two is read
 leaves : (c : tie.After-end-at Inv-loop μ-loop) → c .end-at .result < c .before .before .before .before .before .before .args .nodes
 leaves c =
     let l = c .before .before .before in
-    rw (c .end-at .ensures) (l .before .before .before .pre .0 .leaves (l .loop .e) (c .before .if1 .taken))
+    let f = l .before .before .before in
+    omega (arith, c .end-at .ensures, f .pre .0 .leaves (l .loop .e) (c .before .if1 .taken), f .pre .0 .meets (l .loop .e) (c .before .if1 .taken))
 
 meets : (c : tie.After-end-at2 Inv-loop μ-loop) → c .end-at2 .result < most-nodes
 meets c =

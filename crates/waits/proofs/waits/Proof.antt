@@ -11,7 +11,7 @@ use borrow.Author.Needs.{needs}
 use Rattle.times.specs.declared.Cycles.{Cycles}
 use Rattle.words.specs.Loops.{largest}
 use Rattle.times.specs.Times.{cycles-at}
-use Rattle.sheets.specs.Sheet.{sheet-of, wire-of}
+use Rattle.sheets.specs.Sheet.{sheet-of}
 use Rattle.folding.specs.Walks.{start}
 use Rattle.folding.specs.Folding.{net, tap}
 use Rattle.waits.specs.Fine.{from-node, from-unit}
@@ -90,28 +90,20 @@ mul-wait-of : tie.Need-mul-wait-of Inv-loop μ-loop
 mul-wait-of c = search needs
 
 array-copy-out-wait-of : tie.Need-array-copy-out-wait-of Inv-loop μ-loop
-array-copy-out-wait-of c = omega (arith, ends (c .before .before .before .before) .0, ends (c .before .before .before .before) .2)
+array-copy-out-wait-of c = let e = ends (c .before .before .before .before) in omega (arith, e .0, e .1, e .2)
 
 mul-wait-of-2 : tie.Need-mul-wait-of-2 Inv-loop μ-loop
 mul-wait-of-2 c = search needs
 
 array-copy-out-wait-of-2 : tie.Need-array-copy-out-wait-of-2 Inv-loop μ-loop
-array-copy-out-wait-of-2 c = omega (arith, ends (c .before .before .before .before .before) .1, ends (c .before .before .before .before .before) .2)
+array-copy-out-wait-of-2 c = let e = ends (c .before .before .before .before .before) in omega (arith, e .0, e .1, e .2)
 
 wait-of-requires : tie.Need-wait-of-requires Inv-loop μ-loop
 wait-of-requires c κs =
     let s = c .before .before .before .before .before .before .before .before .before .before .before .before .before in
-    let e = c .before .before .before .before .before .before .before .before .loop .e in
-    let more = c .before .before .before .before .before .before .before .loop-test .taken in (
-      s .pre .0,
-      (
-        more,
-        rw (c .before .before .before .before .before .before .wire-of .ensures) (
-          start-near (s .args .b .now) (s .args .sheet) (s .pre .0) (s .args .t3) (s .pre .1) (wire-of (sheet-of (s .args .b .now)) e .from) (leaves-so (s .args .b .now) (s .args .sheet) (s .pre .0) e more),
-          start-near (s .args .b .now) (s .args .sheet) (s .pre .0) (s .args .t3) (s .pre .1) (wire-of (sheet-of (s .args .b .now)) e .to) (meets-so (s .args .b .now) (s .args .sheet) (s .pre .0) e more),
-        ),
-      ),
-    )
+    let e = ends (c .before .before .before .before .before .before) in
+    let near = start-near (s .args .b .now) (s .args .sheet) (s .pre .0) (s .args .t3) (s .pre .1) in
+    (s .pre .0, (c .before .before .before .before .before .before .before .loop-test .taken, (near _ (omega (arith, e .0, e .1)), near _ (omega (arith, e .0, e .1)))))
 
 few : (c : tie.After-wait-of Inv-loop μ-loop) → c .before .before .before .before .before .before .before .before .before .loop .e < 96
 few c =

@@ -1,15 +1,15 @@
 -- `words::floor_div` meets its contract: −1 − d and its quotient are no further from 0 than d, so each step fits, and the
 -- mirrored quotient is the floor. Assumes nothing.
 use mathlib.Core.Path.{_≡_}
-use mathlib.Core.Bool.{true, false}
 use native.Mathlib.Omega.{arith}
 use lib.IntN.{pos, negsuc, _-ℤ_}
-use lib.Signed.{ltZ, quotZ}
+use lib.Signed.{quotZ}
 use mir.Syntax.{w32}
 use mir.Val.{SFits, toZ}
 use mir.ValLaws.{toZ-ofZ, toZ-pos, sfits-le}
 use borrow.Author.Needs.{needs}
 use Rattle.words.specs.Words.{floor}
+use Rattle.words.proofs.Ints.{ints, up, down, ltZ-true, ltZ-false}
 use Rattle.words.proofs.FloorLaws.{floor-fits, mag-mirror, mag-quot, quot-floor, mirror-floor}
 use Rattle.words.proofs.floor_div.Statement.{statement}
 use Rattle.words.proofs.floor_div.Tie as tie
@@ -56,24 +56,26 @@ div-result-2 c =
     (search needs, simp (read s, whole (c .before)) (sfits-le (mag-quot (s .args .d) (s .args .n)) (s .fits .d)))
 
 returns : tie.Need-returns
+unfolding up down
 returns c =
     let s = c .before .before in
     let q = quotZ (negsuc 0 -ℤ s .args .d) (pos (s .args .n)) in
-    let below : ltZ (s .args .d) (pos 0) ≡ true = simp (read s) at (c .if1 .taken) in
+    let less = ltZ-true (s .args .d) _ (simp (read s) at (c .if1 .taken)) in
     simp (
       read s,
       whole (c .before),
       toZ-ofZ w32 (negsuc 0 -ℤ s .args .d) (mirrored s),
       toZ-ofZ w32 q (divided s),
-      mirror-floor (s .args .d) (s .args .n) below,
+      mirror-floor (s .args .d) (s .args .n) (omega ints),
       toZ-ofZ w32 (floor (s .args .d) (s .args .n)) (floored s),
     )
 
 returns-2 : tie.Need-returns-2
+unfolding up down
 returns-2 c =
     let s = c .before .before in
-    let above : ltZ (s .args .d) (pos 0) ≡ false = simp (read s) at (c .if1 .left) in
-    simp (read s, whole (c .before), quot-floor (s .args .d) (s .args .n) above, toZ-ofZ w32 (floor (s .args .d) (s .args .n)) (floored s))
+    let more = ltZ-false (s .args .d) _ (simp (read s) at (c .if1 .left)) in
+    simp (read s, whole (c .before), quot-floor (s .args .d) (s .args .n) (omega ints), toZ-ofZ w32 (floor (s .args .d) (s .args .n)) (floored s))
 
 pub floor-div-spec : {M : Type 1} → statement M
 floor-div-spec =
