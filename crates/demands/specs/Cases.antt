@@ -71,8 +71,8 @@ LoopOf g (e ∷ es) = Loop g e es
 
 -- ---- the table
 
--- a case by its number: its figures by the definitions, and what the paper says they are; its net, and the loops of it that the paper
--- shows, which is none where it is not refused
+-- a case by its number: its figures by the definitions, and what the paper says they are; its net, and the net's loops: "loop wires 0, 1",
+-- the wire of the node that is wired to itself without delay, and none where the case passes
 pub record Case : Type 0 where
   pub case : ℕ
   pub gives : List (List ℤ)
@@ -80,7 +80,7 @@ pub record Case : Type 0 where
   pub net : Net
   pub loops : List (List ℕ)
 
--- the figures are the paper's, and a list of wires is a loop that can be shown exactly where the paper shows it
+-- the figures are the paper's, and a list of wires is a loop that 6 may show exactly where it is one of these
 pub record Holds (c : Case) : Type 0 where
   pub figures : c .gives ≡ c .says
   pub shown : (l : List ℕ) → LoopOf (c .net) l ↔ Among (λ (shown : List ℕ). shown ≡ l) (c .loops)

@@ -50,6 +50,7 @@ pub record Admitted (b m : List ℕ) (hand lent : ℕ → List ℕ) (r : Run) : 
   pub clears : Clearing b m (r .cleared) (r .memory 0)
   pub steps : (t : ℕ) → t ≤ last-cycle → Stepping b (r .memory t) (hand t) (lent t) (r .number t) (r .memory (suc t)) (r .out t)
 
+-- the run is as demanded: every call answers 0, the words leave as said, and memory holds what it should
 pub record Runs (s : Sheet) (p : Plan) (val : ℕ → ℕ → ℕ) (hand : ℕ → List ℕ) (r : Run) : Type 0 where
   pub clears : r .cleared ≡ 0
   pub steps : (t : ℕ) → t ≤ last-cycle → r .number t ≡ 0
