@@ -2,6 +2,7 @@
 -- refutes every retiming; 6 exactly where there is none. Assumes nothing.
 use mathlib.Core.Path.{_≡_, refl, sym, ap, _∙_, subst}
 use mathlib.Core.Logic.{_↔_, _⊎_, inl, inr}
+use mathlib.Core.Bool.{true, false}
 use mathlib.Core.List.{List, [], _∷_, _++_}
 use Prim.Native.Nat.{ℕ, zero, suc, _+_, _<_, _≤_}
 use native.Mathlib.Decide.{ℕ-discrete}
@@ -11,7 +12,7 @@ use lib.ListN.{length, getD, take, drop, List·getD-eq-default}
 use lib.Seq.{take-at, getD-drop}
 use lib.IntN.{ℤ, pos, _+ℤ_}
 use lib.Signed.{leZ, _≤ℤ_, _<ℤ_}
-use borrow.Author.Tests.{le-leb, ltb-true, ltb-false, ne-eqb}
+use borrow.Author.Tests.{ltb-true, ltb-false, ne-eqb}
 use Rattle.plans.proofs.PlanBytes.{loop-back}
 use Rattle.words.proofs.Ints.{ints, sumℤ, difℤ, up-pos, down-pos, leZ-true, leZ-false}
 use Rattle.words.proofs.LoopLaws.{passed?}
@@ -33,6 +34,7 @@ use Rattle.drawing.specs.PlanOf.{plan-of, plan-length}
 use Rattle.planner.specs.Planning.{plan-number, answered-length, left-in, Planning}
 use Rattle.drawing.proofs.PlanLaws.{node-is, switch-is, nodes-as, plan-folds}
 use Rattle.drawing.proofs.PassedPlan.{reads-back, passes, length-written, plan-small}
+use Rattle.planner.proofs.AnswerLaws.{folds-or}
 use Rattle.planner.proofs.PlanningLaws.{at-zero, at-six}
 use Rattle.demands.specs.Demands.{Bytes, WellPlanned, Among, Demand2Met, WaitsByBounds}
 
@@ -142,22 +144,20 @@ loop-small b fine e es loop =
 
 -- ---- the demand
 
-exactly-when : (b : List ℕ) (room : ℕ) → sheet-fault b ≡ 0 → plan-length b ≤ room →
-    ((plan-number b room ≡ 6) ↔ ((r : ℕ → ℤ) → Retiming (sheet-of b) r → ⊥)) × ((plan-number b room ≡ 0) ↔ ((r : ℕ → ℤ) × Retiming (sheet-of b) r))
-unfolding plan-number
-exactly-when b room fine fits =
+exactly-when : (b before : List ℕ) → sheet-fault b ≡ 0 → plan-length b ≤ length before →
+    ((plan-number b (length before) ≡ 6) ↔ ((r : ℕ → ℤ) → Retiming (sheet-of b) r → ⊥)) × ((plan-number b (length before) ≡ 0) ↔ ((r : ℕ → ℤ) × Retiming (sheet-of b) r))
+exactly-when b before fine fits =
     let s = sheet-of b in
     let snd = sound-of b fine in
-    let enough = le-leb (plan-length b) room fits in
     elim (passed? (foldable (net s))) [
       | inl t ↦
           let ok = folds-well s snd t in
           let r : (r : ℕ → ℤ) × Retiming s r = ((λ u. pos (start (net s) u)), ok .retiming) in
-          rw (fine, enough, t) (((λ h. absurd (omega arith)), (λ f. absurd (f (r .0) (r .1)))), ((λ h. r), (λ r. refl)))
+          rw (folds-or b before fine fits true t) (((λ h. absurd (omega arith)), (λ f. absurd (f (r .0) (r .1)))), ((λ h. r), (λ r. refl)))
       | inr f ↦
           let l = loop-of s snd f in
           let no : (r : ℕ → ℤ) → Retiming s r → ⊥ = loop-leaves-none s snd (l .0) (l .1) (l .2) in
-          rw (fine, enough, f) (((λ h. no), (λ h. refl)), ((λ h. absurd (omega arith)), (λ r. absurd (no (r .0) (r .1)))))
+          rw (folds-or b before fine fits false f) (((λ h. no), (λ h. refl)), ((λ h. absurd (omega arith)), (λ r. absurd (no (r .0) (r .1)))))
     ]
 
 bytes-left : (b before : List ℕ) (number len : ℕ) (after : List ℕ) → Planning b before number len after → Bytes before → Bytes after
@@ -191,7 +191,7 @@ demand-2 b before number len after p = record {
         refutes = λ r. subst (Among (λ e. wait (sheet-of b) r e <ℤ pos 0)) (sym is) (loop-proves (sheet-of b) (sound-of b (j .fine)) (s .wire) (s .wires) (s .loop) r);
       };
   exactly = λ fine fits. subst (λ (n : ℕ). ((n ≡ 6) ↔ ((r : ℕ → ℤ) → Retiming (sheet-of b) r → ⊥)) × ((n ≡ 0) ↔ ((r : ℕ → ℤ) × Retiming (sheet-of b) r)))
-      (sym (p .number-is)) (exactly-when b (length before) fine fits);
+      (sym (p .number-is)) (exactly-when b before fine fits);
   bytes-left = bytes-left b before number len after p;
   taken = λ done. plan-left b before number len after p done .taken;
 }

@@ -65,12 +65,14 @@ units-9 : length (sheet-of (loop-of-two 1) .units) ≤ 2
 unfolding Cases.loop-of-two Loops.tab Sheet.sheet-of
 units-9 = omega arith
 
--- the samples do not matter, and neither do the words that memory and output held
-pub demand-3-on-9 : (r : Run) → Admitted (take 57 after-9) (replicate 6 7) (λ t. replicate 16 t) (λ t. replicate 2 9) r →
-    Runs (sheet-of (loop-of-two 1)) (plan-read (take 57 after-9)) (demand-3 (loop-of-two 1) room 57 after-9 planned-9 (λ c j. j) .0 .val) (λ t. replicate 16 t) r
+-- the samples do not matter, and neither do the words that memory and output held: there is a run, and it is as demanded
+pub demand-3-on-9 :
+    (r : Run) × Admitted (take 57 after-9) (replicate 6 7) (λ t. replicate 16 t) (λ t. replicate 2 9) r
+    × Runs (sheet-of (loop-of-two 1)) (plan-read (take 57 after-9)) (demand-3 (loop-of-two 1) room 57 after-9 planned-9 (λ c j. j) .0 .val) (λ t. replicate 16 t) r
 demand-3-on-9 =
-    demand-3 (loop-of-two 1) room 57 after-9 planned-9 (λ c j. j) .1 (replicate 6 7) (omega (arith, size-9)) (λ t. replicate 16 t) (λ t. replicate 2 9)
-    (λ t. omega arith) (λ t. units-9) (λ x hx port l reached early. absurd (no-port-9 x hx port)) .1
+    let d = demand-3 (loop-of-two 1) room 57 after-9 planned-9 (λ c j. j) .1 (replicate 6 7) (omega (arith, size-9)) (λ t. replicate 16 t) (λ t. replicate 2 9)
+    (λ t. omega arith) (λ t. units-9) (λ x hx port l reached early. absurd (no-port-9 x hx port)) in
+    (d .0 .0, d .0 .1, d .1 (d .0 .0) (d .0 .1))
 
 -- ---- case 10, refused with the loop of wires 0, 1
 
@@ -125,9 +127,11 @@ handed-port xs zero h port l reached early = ap (xs 3) (omega arith)
 handed-port xs (suc zero) h port l reached early = absurd (omega arith)
 handed-port xs (suc (suc x)) h port l reached early = absurd (omega arith)
 
-pub demand-3-on-port : (xs : ℕ → ℕ → ℕ) (r : Run) → Admitted (take 49 after-port) (replicate 4 7) (samples xs) (λ t. replicate 2 9) r →
-    Runs (sheet-of port-and-scale) (plan-read (take 49 after-port)) (demand-3 port-and-scale room-49 49 after-port planned-port xs .0 .val) (samples xs) r
+pub demand-3-on-port : (xs : ℕ → ℕ → ℕ) →
+    (r : Run) × Admitted (take 49 after-port) (replicate 4 7) (samples xs) (λ t. replicate 2 9) r
+    × Runs (sheet-of port-and-scale) (plan-read (take 49 after-port)) (demand-3 port-and-scale room-49 49 after-port planned-port xs .0 .val) (samples xs) r
 unfolding samples Loops.tab
 demand-3-on-port xs =
-    demand-3 port-and-scale room-49 49 after-port planned-port xs .1 (replicate 4 7) (omega (arith, size-port)) (samples xs) (λ t. replicate 2 9)
-    (λ t. omega arith) (λ t. units-port) (handed-port xs) .1
+    let d = demand-3 port-and-scale room-49 49 after-port planned-port xs .1 (replicate 4 7) (omega (arith, size-port)) (samples xs) (λ t. replicate 2 9)
+    (λ t. omega arith) (λ t. units-port) (handed-port xs) in
+    (d .0 .0, d .0 .1, d .1 (d .0 .0) (d .0 .1))

@@ -1,14 +1,13 @@
 -- 01's prints are what listings of cases 9 and 10 put out: case 9's is the text of the plan that its sheet has, and case 10's that of
 -- its only loop. Assumes nothing.
 use mathlib.Core.Path.{_≡_, refl, sym, ap, _∙_}
-use mathlib.Core.Bool.{Bool, true, false}
+use mathlib.Core.Bool.{true, false}
 use mathlib.Core.List.{List}
 use Prim.Native.Nat.{ℕ, _≤_}
 use lib.ListN.{length, take}
 use borrow.Author.Tests.{le-leb}
 use Rattle.words.specs.Loops
 use Rattle.words.specs.Words
-use Rattle.words.specs.Loops.{unless}
 use Rattle.records.specs.Records
 use Rattle.sheets.specs.Sheet
 use Rattle.folding.specs.Walks
@@ -22,7 +21,7 @@ use Rattle.folding.specs.Walks.{foldable}
 use Rattle.folding.specs.Folding.{net}
 use Rattle.plans.specs.Plan.{plan-read}
 use Rattle.drawing.specs.PlanOf.{plan-of, plan-length}
-use Rattle.planner.specs.Planning.{plan-number}
+use Rattle.planner.proofs.AnswerLaws.{folds-or}
 use Rattle.lines.specs.Text.{plan-text, loop-text}
 use Rattle.lines.specs.Prints.{print-9, print-10}
 use Rattle.lines.proofs.Printed.{case-9, printed-9, printed-10}
@@ -47,11 +46,6 @@ prints : (b text : List ℕ) →
     answer-text (x .answered) (take (x .written) left) ≡ text) → Prints b text
 prints b text is plan out number len left after room fits x = put-out text out number len after fits (rw (is plan out number len left after room x) at (x .texted))
 
--- the planner's number on a sheet without fault, with room
-number-of : (b : List ℕ) (room : ℕ) (folds : Bool) → sheet-fault b ≡ 0 → foldable (net (sheet-of b)) ≡ folds → plan-length b ≤ room → plan-number b room ≡ unless folds 6
-unfolding plan-number
-number-of b room folds fine is fits = rw (fine, le-leb (plan-length b) room fits, is) refl
-
 -- both sheets are without fault; case 9's folds, and the plan that 01 prints is the one that it has; case 10's does not fold
 pub record Computed : Type 0 where
   pub fine-9 : sheet-fault (loop-of-two 1) ≡ 0
@@ -67,9 +61,9 @@ computed = record { fine-9 = refl; folds-9 = refl; plan-9 = refl; fine-10 = refl
 pub printed : Printed
 printed = record {
   case-9 = prints (loop-of-two 1) print-9 (λ plan out number len left after room x.
-      let done = x .planned .number-is ∙ number-of (loop-of-two 1) (length plan) true (computed .fine-9) (computed .folds-9) room in
+      let done = x .planned .number-is ∙ folds-or (loop-of-two 1) plan (computed .fine-9) room true (computed .folds-9) in
       listed-plan (loop-of-two 1) plan out number len left after x done ∙ ap plan-text (computed .plan-9) ∙ printed-9);
   case-10 = prints (loop-of-two 0) print-10 (λ plan out number len left after room x.
-      let six = x .planned .number-is ∙ number-of (loop-of-two 0) (length plan) false (computed .fine-10) (computed .folds-10) room in
+      let six = x .planned .number-is ∙ folds-or (loop-of-two 0) plan (computed .fine-10) room false (computed .folds-10) in
       listed-loop (loop-of-two 0) plan out number len left after x six ∙ ap loop-text (sym (only-loop-10 _ (x .planned .shown six .loop))) ∙ printed-10);
 }

@@ -1,7 +1,7 @@
 -- The table of worked cases, computed from the definitions, with the loops of each; the biquad's plan. Assumes nothing.
 use mathlib.Core.Path.{_≡_, refl, subst}
 use mathlib.Core.Logic.{_↔_, inl, inr}
-use mathlib.Core.Bool.{true}
+use mathlib.Core.Bool.{Bool, true}
 use mathlib.Core.List.{List, [], _∷_}
 use Prim.Native.Nat.{ℕ, zero, suc}
 use native.Mathlib.Omega.{arith}
@@ -36,20 +36,17 @@ use Rattle.demands.specs.Cases.{loop-of-two, loop-of-one, example-10, Lo
 
 -- ---- loops
 
--- "r(U) − r(V) ≤ c on every wire", tested wire by wire, of the starts
-abbrev meeting : Net → ℕ → ℤ
-meeting g u = pos (start g u)
+-- "r(U) − r(V) ≤ c on every wire", of the starts: on wire e, and tested wire by wire
+abbrev within : Net → ℕ → Bool
+within g e = leZ (pos (start g (g .from e)) -ℤ pos (start g (g .to e))) (g .bound e)
 
-met : (g : Net) → every (g .wires) (λ e. leZ (meeting g (g .from e) -ℤ meeting g (g .to e)) (g .bound e)) ≡ true → Meets g (meeting g)
-met g h e he =
-    leZ-true (meeting g (g .from e) -ℤ meeting g (g .to e)) (g .bound e)
-    (every-at (g .wires) (λ e. leZ (meeting g (g .from e) -ℤ meeting g (g .to e)) (g .bound e)) h e he)
+met : (g : Net) → every (g .wires) (within g) ≡ true → Meets g (λ u. pos (start g u))
+met g h e he = leZ-true (pos (start g (g .from e)) -ℤ pos (start g (g .to e))) (g .bound e) (every-at (g .wires) (within g) h e he)
 
 -- where the starts meet all bounds no loop can be shown
-no-loop : (g : Net) → every (g .wires) (λ e. leZ (meeting g (g .from e) -ℤ meeting g (g .to e)) (g .bound e)) ≡ true → (l : List ℕ) →
-    LoopOf g l ↔ Among (λ (shown : List ℕ). shown ≡ l) []
+no-loop : (g : Net) → every (g .wires) (within g) ≡ true → (l : List ℕ) → LoopOf g l ↔ Among (λ (shown : List ℕ). shown ≡ l) []
 no-loop g h [] = ((λ loop. loop), (λ none. none))
-no-loop g h (e ∷ es) = ((λ loop. loop-refutes g (meeting g) (e ∷ es) (g .from e) (loop .closed) (loop .short) (met g h)), (λ none. absurd none))
+no-loop g h (e ∷ es) = ((λ loop. loop-refutes g (λ u. pos (start g u)) (e ∷ es) (g .from e) (loop .closed) (loop .short) (met g h)), (λ none. absurd none))
 
 -- one list is a loop, and no other is
 one-loop : (g : Net) (k : List ℕ) → LoopOf g k → ((l : List ℕ) → LoopOf g l → k ≡ l) → (l : List ℕ) → LoopOf g l ↔ Among (λ (shown : List ℕ). shown ≡ l) (k ∷ [])

@@ -59,7 +59,8 @@ module _ (b l : List ℕ) where
     }
 
     module _ (room : plan-length b ≤ length l) where
-      folds-or : (t : Bool) → foldable (net (sheet-of b)) ≡ t → plan-number b (length l) ≡ unless t 6
+      -- the number goes by whether it folds
+      pub folds-or : (t : Bool) → foldable (net (sheet-of b)) ≡ t → plan-number b (length l) ≡ unless t 6
       unfolding plan-number
       folds-or t e = rw (fine, le-leb (plan-length b) (length l) room, e) refl
 

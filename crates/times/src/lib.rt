@@ -1,6 +1,6 @@
 // Waits in cycles and starts in iterations, two types that no function adds: like is added to like, and N alone turns one into
-// the other. Their numbers are private and no function hands one out as it is: what needs the number (its bytes, a place, a count of
-// rounds) stands here. Assumes nothing.
+// the other. Their numbers are private: what needs one (its bytes, a place, a count of rounds) stands here. docs/DECISIONS.md says what
+// this stops and what it does not. Assumes nothing.
 ghost use mathlib.Core.Path.{_≡_};
 ghost use mathlib.Core.Bool.{cond};
 ghost use Prim.Native.Nat.{_+_, _-_, _*_, _/_, _%_, _<_};
