@@ -1,5 +1,6 @@
 // The paper's arithmetic examples, run: the four bounds with N=4, the four scales, and the mean of 315 and 45 degrees.
 // What it prints is held to the file stdout. Assumes nothing.
+#![tactic(auto)]
 ghost use Rattle.std.specs.Prelude.{pos, ◌-ℤ◌};
 ghost use Rattle.std.specs.Int.{w32};
 ghost use Rattle.std.proofs.Common.{SFits};

@@ -1,6 +1,7 @@
 // 01's run cases through the planner, as standard input says: for each sheet the answer, what stands in the buffer and whether its
 // rest was kept, the live counts of its slots, and the cycles at which a node is live in one. Input and print are written by
 // tests/cases.py. Assumes nothing.
+#![tactic(auto)]
 use planner::Planned;
 use plans::Plan;
 use scripts::reading::{byte, decode, front, pair, part, place};
@@ -11,7 +12,7 @@ use sheets::Sheet;
 const BEFORE: u8 = 170;
 
 // Where the next command stands, and where the sheet does.
-#[derive(Drop)]
+#[derive(Clone, Copy)]
 struct State {
     at: usize,
     sheet: usize,

@@ -1,1 +1,2 @@
 // The three demands as theorems over the calls' definitions. No code.
+#![tactic(auto)]

@@ -1,5 +1,6 @@
 // The calls by example: a sheet is planned, its plan's memory measured and cleared, and the plan stepped for sixteen cycles.
 // The filter is the mean of two angles, 337.5 degrees on channel 5 and 45 degrees on channel 2: over the seam it is 11.25, 0x08000000.
+#![tactic(auto)]
 use machine::{Needed, Stepped};
 use planner::Planned;
 use scripts::reading::part;

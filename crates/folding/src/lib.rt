@@ -1,1 +1,2 @@
 // Waits, starts and registers of a sheet.
+#![tactic(auto)]

@@ -1,4 +1,5 @@
 // Judging bytes as a plan: the header, then the total length, then each record in file order, then 4, 5 and 9.
+#![tactic(auto)]
 ghost use Rattle.std.specs.Prelude.{◌≡◌, length};
 ghost use Rattle.words.specs.Loops.{◌then◌};
 ghost use Rattle.records.specs.Answers.{judged, front_fault};
@@ -19,7 +20,7 @@ pub mod figures;
 pub mod switches;
 
 // A plan, or the reason of its first fault.
-#[derive(Drop)]
+#[derive(Clone, Copy)]
 pub enum PlanRead {
     Got(Plan),
     Refused(Reason),

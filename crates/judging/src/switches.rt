@@ -13,7 +13,7 @@ use slots::feeding::{Fed, Input};
 use times::Cycles;
 use words::masks;
 
-#[derive(Drop)]
+#[derive(Clone, Copy)]
 pub enum SwitchRead {
     Got(Joint),
     Refused(Reason),
@@ -91,7 +91,7 @@ fn input_of(j: Joint) -> Input
 }
 
 // What the switches join: the masks of the inputs that they feed, and the largest tap that reads each unit; and their first fault.
-#[derive(Drop)]
+#[derive(Clone, Copy)]
 pub struct Joined {
     pub fed: Fed,
     pub taps: [Cycles; 8],

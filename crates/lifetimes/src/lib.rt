@@ -1,4 +1,5 @@
 // Live counts and registers in closed form: what a wait holds beyond whole rounds of N is counted slot by slot, and the rounds once.
+#![tactic(auto)]
 ghost use Rattle.std.specs.Prelude.{◌≡◌, ◌+◌, ◌%◌, ◌<◌, ◌≤◌, max, get_or, true};
 ghost use Rattle.words.specs.Loops.{largest};
 ghost use Rattle.records.specs.Records.{most_nodes};
@@ -54,7 +55,7 @@ fn first_slot(b: &[u8], sheet: Sheet, x: usize) -> u32
 }
 
 // The live cycles of all nodes: the whole rounds, which count in every slot, and what is left by slots.
-#[derive(Drop)]
+#[derive(Clone, Copy)]
 pub struct Live {
     pub counts: [u32; Sheet::MOST_FOLD],
     pub turns: u32,

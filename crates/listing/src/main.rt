@@ -1,5 +1,6 @@
 // Reads a folding sheet on standard input and prints its plan, or why there is none. What it prints is what `listings::listing`
 // leaves, and is held to the file stdout.
+#![tactic(auto)]
 use libc::{STDIN_FILENO, STDOUT_FILENO};
 use listings::listing;
 use plans::Plan;

@@ -1,5 +1,6 @@
 // The loop that is shown for a sheet that does not fold: the first part of a falling walk that closes, turned to its lowest wire.
 // Assumes nothing.
+#![tactic(auto)]
 ghost use Rattle.std.specs.Prelude.{◌≡◌, false, ◌++◌, ◌+◌, ◌*◌, ◌<◌, ◌≤◌, length, get_or, take, drop};
 ghost use Rattle.records.specs.Records.{most_nodes};
 ghost use Rattle.sheets.specs.Sheet.{sheet_format};
@@ -13,14 +14,14 @@ use rounds::{Layout, end_at, wide};
 use times::Iterations;
 
 // A part of a walk, by its first and its last place.
-#[derive(Drop)]
+#[derive(Clone, Copy)]
 pub struct Span {
     pub first: usize,
     pub last: usize,
 }
 
 // The wires of a loop, in walking order from the lowest.
-#[derive(Drop)]
+#[derive(Clone, Copy)]
 pub struct Looped {
     pub wires: [u8; Layout::NODES],
     pub count: usize,

@@ -1,5 +1,6 @@
 // The cycle machine: a plan's memory is cleared, stepped by one cycle, and its words counted. Every call takes any bytes as a plan;
 // the plan is judged first, then the lent slices, then t, and a refusal changes nothing.
+#![tactic(auto)]
 ghost use Rattle.std.specs.Prelude.{◌≡◌};
 ghost use Rattle.records.specs.Answers.{reason_number};
 ghost use Rattle.memory.specs.Taken.{Taken};
@@ -15,7 +16,7 @@ use records::Unit;
 use records::reading::Reason;
 
 // What clear answers: a case for each of the numbers 0 to 5, 7 and 9.
-#[derive(Drop)]
+#[derive(Clone, Copy)]
 pub enum Cleared {
     Done,
     Length,
@@ -28,7 +29,7 @@ pub enum Cleared {
 }
 
 // What step answers: a case for each of the numbers 0 to 5 and 7 to 9.
-#[derive(Drop)]
+#[derive(Clone, Copy)]
 pub enum Stepped {
     Done,
     Length,
@@ -42,7 +43,7 @@ pub enum Stepped {
 }
 
 // What memory_words answers: the words, or a case for each of the numbers 1 to 5 and 9.
-#[derive(Drop)]
+#[derive(Clone, Copy)]
 pub enum Needed {
     Words(usize),
     Length,

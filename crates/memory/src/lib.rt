@@ -1,4 +1,5 @@
 // The machine's memory: where the places of each unit stand, in the words that are lent.
+#![tactic(auto)]
 ghost use Rattle.std.specs.Prelude.{◌≡◌, ◌+◌, ◌<◌, ◌≤◌, length};
 ghost use Rattle.records.specs.Records.{at, two};
 ghost use Rattle.plans.specs.Plan.{unit_in, plan_read};
@@ -10,7 +11,7 @@ use plans::Plan;
 pub const WORD_BEFORE: u32 = 0;
 
 // Where the places of each unit begin in memory, and how many words the memory has.
-#[derive(Drop)]
+#[derive(Clone, Copy)]
 pub struct Lines {
     pub at: [usize; 8],
     pub size: usize,

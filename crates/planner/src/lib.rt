@@ -1,5 +1,6 @@
 // The planner: any bytes as a sheet in, and a plan, a loop or one numbered refusal out. The sheet is judged first, then the lent
 // buffer, then whether the sheet folds; a refusal other than 6 changes nothing.
+#![tactic(auto)]
 ghost use Rattle.std.specs.Prelude.{◌≡◌, false, ◌*◌, ◌≤◌, length};
 ghost use Rattle.records.specs.Records.{over};
 ghost use Rattle.records.specs.Answers.{reason_number};
@@ -26,7 +27,7 @@ use writing::write_loop_wire;
 pub mod figures;
 
 // What the planner answers: a case for each of the numbers 0 to 7, with the length where it has one.
-#[derive(Drop)]
+#[derive(Clone, Copy)]
 pub enum Planned {
     Done(usize),
     Length,

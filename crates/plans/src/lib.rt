@@ -1,4 +1,5 @@
 // Plans: the constants of their records, where each stands, and what it says.
+#![tactic(auto)]
 ghost use Rattle.std.specs.Prelude.{◌≡◌, ◌+◌, ◌*◌, ◌%◌, ◌<◌, ◌≤◌, length, pos};
 ghost use Rattle.records.specs.Records.{at, two};
 ghost use Rattle.records.specs.Answers.{unit_run, node_run, wire_run};
@@ -9,7 +10,7 @@ use records::reading::Run;
 use times::{Cycles, Iterations};
 
 // What a plan's header says: N and the counts of units, nodes and switches.
-#[derive(Drop)]
+#[derive(Clone, Copy)]
 pub struct Plan {
     pub fold: u8,
     pub units: u8,
@@ -166,7 +167,7 @@ pub fn tap_of(b: &[u8], p: Plan, e: usize) -> Cycles
 }
 
 // What a switch joins: in that slot the unit's input reads the source.
-#[derive(Drop)]
+#[derive(Clone, Copy)]
 pub struct Joint {
     pub unit: u8,
     pub input: u8,

@@ -1,4 +1,5 @@
 // What sheets and plans share: units and ops with their limits, a node's own fields, and below it the reading of their records.
+#![tactic(auto)]
 ghost use Rattle.std.specs.Prelude.{◌≡◌, true};
 ghost use Rattle.records.specs.Units.{kind_of, inputs, k_least, k_most, k_fits, unit_fits, value};
 ghost use Rattle.records.specs.Answers.{channel_of};
@@ -6,7 +7,7 @@ ghost use Rattle.records.specs.Answers.{channel_of};
 pub mod reading;
 
 // A unit: its kind and its pipeline depth.
-#[derive(Drop)]
+#[derive(Clone, Copy)]
 pub struct Unit {
     pub kind: u8,
     pub depth: u8,
@@ -117,7 +118,7 @@ impl Unit {
 }
 
 // A node: its unit and slot, its op and K.
-#[derive(Drop)]
+#[derive(Clone, Copy)]
 pub struct Node {
     pub unit: u8,
     pub slot: u8,

@@ -7,7 +7,7 @@ ghost use Rattle.records.specs.Answers.{judged, header_part, mark_part, unit_par
 use crate::{Node, Unit};
 
 // Why bytes are refused: a case for each of the numbers 1 to 5 and 9.
-#[derive(Drop)]
+#[derive(Clone, Copy)]
 pub enum Reason {
     Length,
     Mark,
@@ -18,14 +18,14 @@ pub enum Reason {
 }
 
 // What judging a part of the bytes answers.
-#[derive(Drop)]
+#[derive(Clone, Copy)]
 pub enum Judged {
     Passed,
     Refused(Reason),
 }
 
 // What a header says: N and the numbers of units, nodes and wires.
-#[derive(Drop)]
+#[derive(Clone, Copy)]
 pub struct Header {
     pub fold: u8,
     pub units: u8,
@@ -64,7 +64,7 @@ impl Header {
     }
 }
 
-#[derive(Drop)]
+#[derive(Clone, Copy)]
 pub enum HeaderRead {
     Got(Header),
     Refused(Reason),
@@ -97,7 +97,7 @@ fn header_in(b: &[u8]) -> Header
 }
 
 // A run of records of one sort: where it begins, the length of each, how many they are, and their mark.
-#[derive(Drop)]
+#[derive(Clone, Copy)]
 pub struct Run {
     pub at: usize,
     pub size: usize,
@@ -133,7 +133,7 @@ pub fn two_at(b: &[u8], at: usize) -> u16
     b[at] as u16 + 256 * (b[at + 1] as u16)
 }
 
-#[derive(Drop)]
+#[derive(Clone, Copy)]
 pub enum UnitRead {
     Got(Unit),
     Refused(Reason),
@@ -189,7 +189,7 @@ pub fn judge_units(b: &[u8], units: Run) -> Judged
     Judged::Passed
 }
 
-#[derive(Drop)]
+#[derive(Clone, Copy)]
 pub enum NodeRead {
     Got(Node),
     Refused(Reason),

@@ -1,6 +1,7 @@
 // Rounds over a sheet's wires, whose records are read where they stand. A round makes every node's total from the former round's
 // alone, so that after k rounds it is the least over walks of at most k wires, and the rounds counted until nothing changes are the
 // chain. Assumes nothing.
+#![tactic(auto)]
 ghost use Rattle.std.specs.Prelude.{◌≡◌, ℕ, ◌+◌, ◌*◌, ◌<◌, length, get_or, pos};
 ghost use Rattle.times.specs.Times.{iterations_at};
 ghost use Rattle.sheets.specs.Sheet.{sheet_format};
@@ -10,7 +11,7 @@ use sheets::Sheet;
 use times::Iterations;
 
 // The limits of a sheet by which arrays are made, and where a wire's record has its two ends.
-#[derive(Drop)]
+#[derive(Clone, Copy)]
 pub struct Layout {}
 
 impl Layout {
@@ -26,7 +27,7 @@ impl Layout {
 }
 
 // What the rounds come to, and how many there were.
-#[derive(Drop)]
+#[derive(Clone, Copy)]
 pub struct Settled {
     pub totals: [Iterations; Layout::NODES],
     pub rounds: u8,

@@ -1,6 +1,7 @@
 // Runs plans as standard input says, and prints what the calls answer and leave. Input and print are written by tests/runs.py, the
 // print from the unfolded graph. The input is hexadecimal digits, a command a line; all other characters, capitals too, are skipped.
 // Assumes nothing.
+#![tactic(auto)]
 use scripts::filling::{fill, store};
 use scripts::reading::{byte, decode, pair, part, place, within, word};
 use scripts::showing::{print, print_number, print_words};
@@ -9,7 +10,7 @@ use scripts::showing::{print, print_number, print_words};
 const APART: u32 = 0x9e37_79b9;
 
 // Where the next command stands, where the plan does, and how many words of each slice are lent.
-#[derive(Drop)]
+#[derive(Clone, Copy)]
 struct State {
     at: usize,
     plan: usize,

@@ -14,13 +14,13 @@ use slots::{Slots, slots_in};
 use words::masks;
 
 // A sheet, or the reason of its first fault.
-#[derive(Drop)]
+#[derive(Clone, Copy)]
 pub enum SheetRead {
     Got(Sheet),
     Refused(Reason),
 }
 
-#[derive(Drop)]
+#[derive(Clone, Copy)]
 pub enum WireRead {
     Got(Wire),
     Refused(Reason),

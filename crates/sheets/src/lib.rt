@@ -1,4 +1,5 @@
 // Folding sheets: what a header says, and a sheet's records read where they stand.
+#![tactic(auto)]
 ghost use Rattle.std.specs.Prelude.{◌≡◌, ◌+◌, ◌<◌, ◌≤◌, length};
 ghost use Rattle.records.specs.Answers.{place, unit_run, node_run, wire_run};
 ghost use Rattle.sheets.specs.Sheet.{sheet_format, sheet_of, unit_of, node_of, wire_of, wire_at};
@@ -10,7 +11,7 @@ use records::{Node, Unit};
 pub mod judging;
 
 // What a sheet's header says: N and the numbers of units, nodes and wires.
-#[derive(Drop)]
+#[derive(Clone, Copy)]
 pub struct Sheet {
     pub fold: u8,
     pub units: u8,
@@ -98,7 +99,7 @@ impl Sheet {
 }
 
 // A wire: the nodes that it leaves and meets, the input that it feeds, its delays.
-#[derive(Drop)]
+#[derive(Clone, Copy)]
 pub struct Wire {
     pub from: u8,
     pub to: u8,

@@ -9,7 +9,7 @@ use records::Unit;
 use records::reading::{Header, Run, unit_in};
 
 // An input of the node on a unit in a slot.
-#[derive(Drop)]
+#[derive(Clone, Copy)]
 pub struct Input {
     pub unit: u8,
     pub slot: u8,
@@ -28,7 +28,7 @@ impl Input {
 }
 
 // The masks of the inputs fed, and whether one is fed twice.
-#[derive(Drop)]
+#[derive(Clone, Copy)]
 pub struct Fed {
     pub masks: [u32; Fed::MASKS],
     pub twice: bool,

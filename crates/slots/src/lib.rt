@@ -1,5 +1,6 @@
 // Occupied slots and inputs fed, as masks, for sheets and plans. A unit's occupied slots are one mask, filled node by node;
 // clashes are found by the masks.
+#![tactic(auto)]
 ghost use Rattle.std.specs.Prelude.{◌≡◌, cond, ◌&&◌, ℕ, ◌<◌, eqb, length};
 ghost use Rattle.words.specs.Masks.{in_mask, with_slot};
 ghost use Rattle.records.specs.Units.{op_port};
@@ -13,7 +14,7 @@ use words::masks;
 pub mod feeding;
 
 // The masks of the units' occupied slots, and whether two nodes clash.
-#[derive(Drop)]
+#[derive(Clone, Copy)]
 pub struct Slots {
     pub occupied: [u32; Header::MOST_UNITS],
     pub clash: bool,

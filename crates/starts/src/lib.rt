@@ -1,4 +1,5 @@
 // The latest retiming: one constant is added to the totals that the rounds leave, so that the smallest start is 0. Assumes nothing.
+#![tactic(auto)]
 ghost use Rattle.std.specs.Prelude.{◌≡◌, ℕ, ◌<◌, ◌≤◌};
 ghost use Rattle.std.specs.Int.{w32};
 ghost use Rattle.std.proofs.Common.{SFits};
@@ -12,7 +13,7 @@ use rounds::{Layout, no_totals, settle};
 use times::Iterations;
 
 // The latest retiming: starts, and the rounds that it took.
-#[derive(Drop)]
+#[derive(Clone, Copy)]
 pub struct Retimed {
     pub starts: [Iterations; Layout::NODES],
     pub rounds: u8,

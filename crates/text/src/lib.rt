@@ -1,5 +1,6 @@
 // The text of a plan, of an unfoldable sheet's loop and of a refusal, put into a lent buffer. Every call takes any bytes: they are
 // judged first, then the text is measured, by writing it where there is no room, and a refusal changes nothing.
+#![tactic(auto)]
 ghost use Rattle.std.specs.Prelude.{◌≡◌, ◌≤◌};
 ghost use Rattle.records.specs.Answers.{reason_number};
 ghost use Rattle.plans.specs.Plan.{plan_read};
@@ -17,7 +18,7 @@ use records::reading::{Header, Judged, Reason};
 mod refusals;
 
 // What a text call answers: the text's length where it is written or does not fit, or a case for each of the numbers 1 to 5 and 9.
-#[derive(Drop)]
+#[derive(Clone, Copy)]
 pub enum Texted {
     Done(usize),
     Length,

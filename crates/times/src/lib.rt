@@ -1,6 +1,7 @@
 // Waits in cycles and starts in iterations, two types that no function adds: like is added to like, and N alone turns one into
 // the other. Their numbers are private: what needs one (its bytes, a place, a count of rounds) stands here. docs/DECISIONS.md says what
 // this stops and what it does not. Assumes nothing.
+#![tactic(auto)]
 ghost use Rattle.std.specs.Prelude.{◌≡◌, cond, ◌+◌, ◌-◌, ◌*◌, ◌/◌, ◌%◌, ◌<◌, ltb, pos, nat_abs, ◌+ℤ◌, ◌-ℤ◌, ◌*ℤ◌, ◌≤ℤ◌};
 ghost use Rattle.std.specs.Int.Signed.{lt_z, le_z};
 ghost use Rattle.std.specs.Int.{w32};
@@ -9,11 +10,11 @@ ghost use Rattle.words.specs.Words.{floor};
 ghost use Rattle.times.specs.Times.{eqZ};
 
 // Raw waits, waits, taps and line lengths.
-#[derive(Drop)]
+#[derive(Clone, Copy)]
 pub struct Cycles(i32);
 
 // Bounds, totals of bounds and starts.
-#[derive(Drop)]
+#[derive(Clone, Copy)]
 pub struct Iterations(i32);
 
 fn two_bytes(low: u8, high: u8) -> i32

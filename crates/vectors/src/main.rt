@@ -1,5 +1,6 @@
 // Replays the stored cases on standard input through the crates, and prints what the calls answer and leave. Cases and print are
 // written by tests/vectors, from an implementation of 01 apart from this one; tests/README.md has their form.
+#![tactic(auto)]
 use listings::listing;
 use scripts::filling::{fill, store};
 use scripts::reading::{byte, front, front_words, pair, part, place, word};
@@ -17,7 +18,7 @@ const OUTPUT: u32 = 145980072;
 const STEP: u32 = 3816266640;
 
 // A case's header: what is called, how often, on how many bytes, how much is lent, and where its bytes stand.
-#[derive(Drop)]
+#[derive(Clone, Copy)]
 struct Case {
     sort: u8,
     steps: u8,

@@ -1,4 +1,5 @@
 // Raw waits, bounds and waits of all wires of a sheet without fault, and the longest of them by node and by unit.
+#![tactic(auto)]
 ghost use Rattle.std.specs.Prelude.{◌≡◌, ℕ, ◌<◌, pos, ◌+ℤ◌, ◌-ℤ◌, ◌*ℤ◌};
 ghost use Rattle.times.specs.Times.{iterations_at, cycles_at};
 ghost use Rattle.sheets.specs.Sheet.{sheet_of};
@@ -51,7 +52,7 @@ fn wait_of(b: &[u8], sheet: Sheet, e: usize, from: Iterations, to: Iterations) -
 }
 
 // The waits of all wires, the longest of those that leave each node, and the length of each unit's line: the longest tap that reads it.
-#[derive(Drop)]
+#[derive(Clone, Copy)]
 pub struct Waited {
     pub waits: [Cycles; Sheet::MOST_WIRES],
     pub longest: [Cycles; Sheet::MOST_NODES],
