@@ -6,23 +6,23 @@ use Rattle.words.specs.Words.{turn, half_turn, whole_gain, floor, residue, signe
 use Rattle.words.proofs.FitLaws.{product_fits}
 use Rattle.words.proofs.FloorLaws.{floor_fits, shift_floor}
 use Rattle.words.proofs.WordLaws.{mag_signed, signed_fits}
-use Rattle.words.proofs.scale.Statement.{statement}
-use Rattle.words.proofs.scale.Tie as tie
+use Rattle.words.proofs.scale.Goals as goal
+use Rattle.words.proofs.scale.Goals.{After-signed_word, Start}
 
-gain : (c : tie.Start) → to_z w16 (of_z w16 c.args.k) ≡ c.args.k
+gain : (c : Start) → to_z w16 (of_z w16 c.args.k) ≡ c.args.k
 gain c = to_z-of_z w16 c.args.k c.ranges.k
 
-wide : (c : tie.Start) → SFits w64 c.args.k
+wide : (c : Start) → SFits w64 c.args.k
 wide c = sfits_widen tt c.ranges.k
 
-product : (c : tie.Start) → SFits w64 (signed half_turn c.args.a *ℤ c.args.k)
+product : (c : Start) → SFits w64 (signed half_turn c.args.a *ℤ c.args.k)
 product c =
     let a = c.args.a in
     product_fits (signed half_turn a) c.args.k half_turn (2 ^ 15) (mag_signed half_turn a (omega arith)) c.ranges.k.sfits (lit< tt)
 
-factors : (c : tie.After-signed-word) →
-    to_z w64 (of_z w64 c.signed_word.result) *ℤ to_z w64 (of_z w64 (to_z w16 (of_z w16 c.before.args.k)))
-    ≡ signed half_turn c.before.args.a *ℤ c.before.args.k
+factors : (c : After-signed_word) →
+    to_z w64 (of_z w64 c.signed_word.result) *ℤ to_z w64 (of_z w64 (to_z w16 (of_z w16 c.args.k)))
+    ≡ signed half_turn c.args.a *ℤ c.args.k
 factors c =
     let s = c.before in
     simp (
@@ -32,19 +32,13 @@ factors c =
       to_z-of_z w64 (signed half_turn s.args.a) (signed_fits half_turn s.args.a (omega arith) tt),
     )
 
-signed-word-requires : tie.Need-signed-word-requires
-signed-word-requires c κs = search rules
+pub overflow_cast-product : goal.overflow_cast-product
+overflow_cast-product c = simp (gain c.before) (wide c.before)
 
-cast-product : tie.Need-overflow-cast-product
-cast-product c = simp (gain c.before) (wide c.before)
+pub overflow_mul-product : goal.overflow_mul-product
+overflow_mul-product c = rw (factors c) (product c.before)
 
-mul-product : tie.Need-overflow-mul-product
-mul-product c = rw (factors c) (product c.before)
-
-to-word-requires : tie.Need-to-word-requires
-to-word-requires c κs = search rules
-
-returns : tie.Need-returns
+pub returns : goal.returns
 unfolding scale
 returns c =
     let s = c.before.before in
@@ -53,7 +47,3 @@ returns c =
     c.to_word.ensures
     ∙ ap (λ (z : ℤ). residue z turn)
     (simp (factors c.before, to_z-of_z w64 p (product s), shift_floor p whole_gain, to_z-of_z w64 (floor p whole_gain) f))
-
-pub scale-spec : {M : Type 1} → statement M
-scale-spec =
-    tie.close (tie.spec signed-word-requires cast-product mul-product to-word-requires returns)

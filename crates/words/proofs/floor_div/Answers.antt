@@ -6,56 +6,50 @@ use mir.ValLaws.{to_z-of_z, to_z_pos, sfits_le}
 use Rattle.words.specs.Words.{floor}
 use Rattle.words.proofs.Ints.{ints, up, down, ltZ_true, ltZ_false}
 use Rattle.words.proofs.FloorLaws.{floor_fits, mag_mirror, mag_quot, quot_floor, mirror_floor}
-use Rattle.words.proofs.floor_div.Statement.{statement}
-use Rattle.words.proofs.floor_div.Tie as tie
+use Rattle.words.proofs.floor_div.Goals as goal
+use Rattle.words.proofs.floor_div.Goals.{After-divisor-m, Start}
 
-read : (c : tie.Start) → to_z w32 (mir.Val.of_z w32 c.args.d) ≡ c.args.d
+read : (c : Start) → to_z w32 (mir.Val.of_z w32 c.args.d) ≡ c.args.d
 read c = to_z-of_z w32 c.args.d c.ranges.d
 
-whole : (c : tie.After-divisor) → to_z w32 c.divisor.result ≡ pos c.before.args.n
-whole c = rw c.divisor.ensures (to_z_pos w32 c.before.args.n (omega arith))
+whole : (c : After-divisor-m) → to_z w32 c.divisor-m.result ≡ pos c.args.n
+whole c = rw c.divisor-m.ensures (to_z_pos w32 c.args.n (omega arith))
 
-mirrored : (c : tie.Start) → SFits w32 (negsuc 0 -ℤ c.args.d)
+mirrored : (c : Start) → SFits w32 (negsuc 0 -ℤ c.args.d)
 mirrored c = sfits_le (mag_mirror c.args.d) c.ranges.d
 
-divided : (c : tie.Start) → SFits w32 (quot_z (negsuc 0 -ℤ c.args.d) (pos c.args.n))
+divided : (c : Start) → SFits w32 (quot_z (negsuc 0 -ℤ c.args.d) (pos c.args.n))
 divided c = sfits_le (mag_quot (negsuc 0 -ℤ c.args.d) c.args.n) (mirrored c)
 
-floored : (c : tie.Start) → SFits w32 (floor c.args.d c.args.n)
+floored : (c : Start) → SFits w32 (floor c.args.d c.args.n)
 floored c = floor_fits c.args.d c.args.n c.ranges.d
 
-divisor-requires : tie.Need-divisor-requires
-divisor-requires c κs = search rules
+pub overflow_sub-result : goal.overflow_sub-result
+overflow_sub-result c = simp (read c.before.before) (mirrored c.before.before)
 
-cast-m : tie.Need-overflow-cast-m
-cast-m c = search rules
-
-sub-result : tie.Need-overflow-sub-result
-sub-result c = simp (read c.before.before) (mirrored c.before.before)
-
-div-result : tie.Need-nonzero-div-result
-div-result c =
+pub nonzero_div-result : goal.nonzero_div-result
+nonzero_div-result c =
     let s = c.before.before in
     (search rules, simp (read s, whole c.before, to_z-of_z w32 (negsuc 0 -ℤ s.args.d) (mirrored s)) (divided s))
 
-sub-result-2 : tie.Need-overflow-sub-result-2
-sub-result-2 c =
+pub overflow_sub-result-then-d-lt0 : goal.overflow_sub-result-then-d-lt0
+overflow_sub-result-then-d-lt0 c =
     let s = c.before.before in
     let q = quot_z (negsuc 0 -ℤ s.args.d) (pos s.args.n) in
     simp (read s, whole c.before, to_z-of_z w32 (negsuc 0 -ℤ s.args.d) (mirrored s), to_z-of_z w32 q (divided s))
     (sfits_le (mag_mirror q) (divided s))
 
-div-result-2 : tie.Need-nonzero-div-result-2
-div-result-2 c =
+pub nonzero_div-result-else-d-lt0 : goal.nonzero_div-result-else-d-lt0
+nonzero_div-result-else-d-lt0 c =
     let s = c.before.before in
     (search rules, simp (read s, whole c.before) (sfits_le (mag_quot s.args.d s.args.n) s.ranges.d))
 
-returns : tie.Need-returns
+pub returns-then-d-lt0 : goal.returns-then-d-lt0
 unfolding up down
-returns c =
+returns-then-d-lt0 c =
     let s = c.before.before in
     let q = quot_z (negsuc 0 -ℤ s.args.d) (pos s.args.n) in
-    let less = ltZ_true s.args.d _ (simp (read s) at c.if1.true) in
+    let less = ltZ_true s.args.d _ (simp (read s) at c.if-d-lt0.true) in
     simp (
       read s,
       whole c.before,
@@ -65,13 +59,9 @@ returns c =
       to_z-of_z w32 (floor s.args.d s.args.n) (floored s),
     )
 
-returns-2 : tie.Need-returns-2
+pub returns-else-d-lt0 : goal.returns-else-d-lt0
 unfolding up down
-returns-2 c =
+returns-else-d-lt0 c =
     let s = c.before.before in
-    let more = ltZ_false s.args.d _ (simp (read s) at c.if1.false) in
+    let more = ltZ_false s.args.d _ (simp (read s) at c.if-d-lt0.false) in
     simp (read s, whole c.before, quot_floor s.args.d s.args.n (omega ints), to_z-of_z w32 (floor s.args.d s.args.n) (floored s))
-
-pub floor-div-spec : {M : Type 1} → statement M
-floor-div-spec =
-    tie.close (tie.spec divisor-requires cast-m sub-result div-result sub-result-2 div-result-2 returns returns-2)

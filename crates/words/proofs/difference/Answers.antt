@@ -1,0 +1,10 @@
+-- `words::difference` meets its contract: the result is a word and with b gives a mod 2^32, and the difference alone does.
+-- Assumes nothing.
+use Rattle.std.proofs.Common.{arith, rules}
+use Rattle.words.proofs.WordLaws.{difference_is}
+use Rattle.words.proofs.difference.Goals as goal
+
+pub returns : goal.returns
+returns c =
+    let a = c.args in
+    difference_is a.a a.b c.wrapping_sub_u32.result (omega arith) (omega arith) c.wrapping_sub_u32.ensures.value
