@@ -69,7 +69,7 @@ fn plan_shown(plan: &[u8], p: Plan, out: &mut [u8]) -> Texted
 // The text of a plan.
 pub fn plan_text(plan: &[u8], out: &mut [u8]) -> Texted
     ensures texting { Texting (plan_fault plan.now) (plan_text (plan_read plan.now)) out.old (texted_number result) (texted_length result) out.new }
-    ensures* result_bound { do ⌜ texted_length result ≤ (← (⟦Texted::LONGEST⟧).entry) ⌝ }
+    ensures result_bound { texted_length result ≤ Texted.LONGEST }
 {
     match judge(plan) {
         PlanRead::Got(p) => plan_shown(plan, p, out),
