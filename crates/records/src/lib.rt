@@ -1,5 +1,6 @@
 // What sheets and plans share: units and ops with their limits, a node's own fields, and below it the reading of their records.
 #![tactic(auto)]
+
 ghost use Rattle.std.specs.Prelude.{◌≡◌, true};
 ghost use Rattle.records.specs.Units.{kind_of, inputs, k_least, k_most, k_fits, unit_fits, value};
 ghost use Rattle.records.specs.Answers.{channel_of};

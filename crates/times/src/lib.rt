@@ -2,6 +2,7 @@
 // the other. Their numbers are private: what needs one (its bytes, a place, a count of rounds) stands here. docs/DECISIONS.md says what
 // this stops and what it does not. Assumes nothing.
 #![tactic(auto)]
+
 ghost use Rattle.std.specs.Prelude.{◌≡◌, cond, ◌+◌, ◌-◌, ◌*◌, ◌/◌, ◌%◌, ◌<◌, ltb, pos, nat_abs, ◌+ℤ◌, ◌-ℤ◌, ◌*ℤ◌, ◌≤ℤ◌};
 ghost use Rattle.std.specs.Int.Signed.{lt_z, le_z};
 ghost use Rattle.std.specs.Int.{w32};

@@ -1,0 +1,11 @@
+-- `records::reading::node_judged` meets its contract: a reason is answered at its own number. Assumes nothing.
+use mathlib.Core.Path.{sym, ap, ◌∙◌}
+use Rattle.records.specs.declared.reading.NodeRead.{NodeRead}
+use Rattle.records.specs.declared.reading.Judged.TheVariants as J
+use Rattle.records.specs.Answers.{judged, node_number}
+use Rattle.records.proofs.AnswerLaws.{answer_reason}
+use borrow.Author.Rules.{rules}
+use Rattle.records.proofs.reading.node_judged.Goals as goal
+
+pub returns-in-Refused : goal.returns-in-Refused
+returns-in-Refused c = sym (ap (λ (r : NodeRead). judged (node_number r)) c.in-Refused.is ∙ answer_reason J.Passed J.Refused _)
