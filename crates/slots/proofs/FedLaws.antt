@@ -8,7 +8,7 @@ use native.Mathlib.Decide.{ℕ_discrete}
 use native.Mathlib.Omega.{arith}
 use lib.Dec.{ltb, leb, eqb}
 use lib.ListN.{get_or}
-use borrow.Author.Tests.{ltb-true, ltb-false, leb-false, lt-leb, eqb-true, eq-eqb, not_true}
+use borrow.Author.Tests.{ltb-true, ltb-false, leb-false, lt-leb, eqb-true, eq-eqb, not-true}
 use Rattle.words.specs.Loops.{some_of, count}
 use Rattle.words.specs.Masks.{in_mask}
 use Rattle.words.proofs.LoopLaws.{passed?, bool_ext, and_split, and_join, every_at, every_all, some_of_hit}
@@ -186,5 +186,5 @@ module _
     pub fed_right : (units_fed units unit s.occupied f.masks && not f.twice) ≡ fed_once n node w feeds
     fed_right =
         bool_ext _ _
-        (λ t. let a = and_split (units_fed units unit s.occupied f.masks) (not f.twice) t in rule a.0 (not_true f.twice a.1))
+        (λ t. let a = and_split (units_fed units unit s.occupied f.masks) (not f.twice) t in rule a.0 (not-true f.twice a.1))
         (λ t. and_join _ _ (test t) (rw (twice_not t) refl))

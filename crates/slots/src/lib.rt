@@ -1,6 +1,7 @@
 // Occupied slots and inputs fed, as masks, for sheets and plans. A unit's occupied slots are one mask, filled node by node;
 // clashes are found by the masks.
 #![tactic(auto)]
+
 ghost use Rattle.std.specs.Prelude.{◌≡◌, cond, ◌&&◌, ℕ, ◌<◌, eqb, length};
 ghost use Rattle.words.specs.Masks.{in_mask, with_slot};
 ghost use Rattle.records.specs.Units.{op_port};
