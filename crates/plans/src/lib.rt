@@ -1,5 +1,6 @@
 // Plans: the constants of their records, where each stands, and what it says.
 #![tactic(auto)]
+
 ghost use Rattle.std.specs.Prelude.{◌≡◌, ◌+◌, ◌*◌, ◌%◌, ◌<◌, ◌≤◌, length, pos};
 ghost use Rattle.records.specs.Records.{at, two};
 ghost use Rattle.records.specs.Answers.{unit_run, node_run, wire_run};
