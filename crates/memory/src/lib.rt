@@ -1,5 +1,6 @@
 // The machine's memory: where the places of each unit stand, in the words that are lent.
 #![tactic(auto)]
+
 ghost use Rattle.std.specs.Prelude.{◌≡◌, ◌+◌, ◌<◌, ◌≤◌, length};
 ghost use Rattle.records.specs.Records.{at, two};
 ghost use Rattle.plans.specs.Plan.{unit_in, plan_read};

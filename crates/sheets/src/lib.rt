@@ -1,5 +1,6 @@
 // Folding sheets: what a header says, and a sheet's records read where they stand.
 #![tactic(auto)]
+
 ghost use Rattle.std.specs.Prelude.{◌≡◌, ◌+◌, ◌<◌, ◌≤◌, length};
 ghost use Rattle.records.specs.Answers.{place, unit_run, node_run, wire_run};
 ghost use Rattle.sheets.specs.Sheet.{sheet_format, sheet_of, unit_of, node_of, wire_of, wire_at};

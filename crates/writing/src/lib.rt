@@ -1,5 +1,6 @@
 // A writer for each record of a plan: its bytes are laid over the lent buffer at a place.
 #![tactic(auto)]
+
 ghost use Rattle.std.specs.Prelude.{◌≡◌, [], ◌∷◌, ◌+◌, ◌≤◌, length, pos, nat_abs, ◌≤ℤ◌};
 ghost use Rattle.words.specs.Words.{residue};
 ghost use Rattle.records.specs.Records.{low, high};
