@@ -1,5 +1,6 @@
 // The results that the units begin in a cycle: each node of the slot gives its op's value on the words at its unit's inputs.
 #![tactic(auto)]
+
 ghost use Rattle.std.specs.Prelude.{◌≡◌, true, ◌/◌, ◌%◌, ◌<◌, ◌≤◌, length};
 ghost use Rattle.records.specs.Units.{channels, k_fits};
 ghost use Rattle.records.specs.Records.{at};

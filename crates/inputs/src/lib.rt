@@ -1,5 +1,6 @@
 // The words at the inputs of a plan that has been judged: what each switch of a slot reads.
 #![tactic(auto)]
+
 ghost use Rattle.std.specs.Prelude.{◌≡◌, ◌+◌, ◌^◌, ◌<◌, ◌≤◌, length};
 ghost use Rattle.plans.specs.Plan.{switch_in, plan_read};
 ghost use Rattle.memory.specs.Taken.{Taken, Ready};

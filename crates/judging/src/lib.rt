@@ -1,5 +1,6 @@
 // Judging bytes as a plan: the header, then the total length, then each record in file order, then 4, 5 and 9.
 #![tactic(auto)]
+
 ghost use Rattle.std.specs.Prelude.{◌≡◌, length};
 ghost use Rattle.words.specs.Loops.{◌then◌};
 ghost use Rattle.records.specs.Answers.{judged, front_fault};

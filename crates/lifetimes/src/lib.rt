@@ -1,5 +1,6 @@
 // Live counts and registers in closed form: what a wait holds beyond whole rounds of N is counted slot by slot, and the rounds once.
 #![tactic(auto)]
+
 ghost use Rattle.std.specs.Prelude.{◌≡◌, ◌+◌, ◌%◌, ◌<◌, ◌≤◌, max, get_or, true};
 ghost use Rattle.words.specs.Loops.{largest};
 ghost use Rattle.records.specs.Records.{most_nodes};

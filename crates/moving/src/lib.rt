@@ -1,6 +1,7 @@
 // What clearing and a step write: places that move by one, the leaving words, cleared words. A line is moved in one pass, from its
 // oldest place down.
 #![tactic(auto)]
+
 ghost use Rattle.std.specs.Prelude.{◌≡◌, ◌∷◌, ◌+◌, ◌^◌, ◌<◌, ◌≤◌, length, take};
 ghost use Rattle.records.specs.Records.{at, over};
 ghost use Rattle.plans.specs.Plan.{plan_read};

@@ -2,6 +2,7 @@
 // alone, so that after k rounds it is the least over walks of at most k wires, and the rounds counted until nothing changes are the
 // chain. Assumes nothing.
 #![tactic(auto)]
+
 ghost use Rattle.std.specs.Prelude.{◌≡◌, ℕ, ◌+◌, ◌*◌, ◌<◌, length, get_or, pos};
 ghost use Rattle.times.specs.Times.{iterations_at};
 ghost use Rattle.sheets.specs.Sheet.{sheet_format};

@@ -1,5 +1,6 @@
 // Raw waits, bounds and waits of all wires of a sheet without fault, and the longest of them by node and by unit.
 #![tactic(auto)]
+
 ghost use Rattle.std.specs.Prelude.{◌≡◌, ℕ, ◌<◌, pos, ◌+ℤ◌, ◌-ℤ◌, ◌*ℤ◌};
 ghost use Rattle.times.specs.Times.{iterations_at, cycles_at};
 ghost use Rattle.sheets.specs.Sheet.{sheet_of};
