@@ -1,6 +1,7 @@
 // The cycle machine: a plan's memory is cleared, stepped by one cycle, and its words counted. Every call takes any bytes as a plan;
 // the plan is judged first, then the lent slices, then t, and a refusal changes nothing.
 #![tactic(auto)]
+
 ghost use Rattle.std.specs.Prelude.{◌≡◌};
 ghost use Rattle.records.specs.Answers.{reason_number};
 ghost use Rattle.memory.specs.Taken.{Taken};

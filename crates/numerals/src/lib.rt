@@ -1,6 +1,7 @@
 // Words and numbers laid into a lent buffer from a place on; each function answers the place behind what it laid. What lies beyond the
 // buffer's end is left out, so that the same code measures a text where there is no room for it.
 #![tactic(auto)]
+
 ghost use Rattle.std.specs.Prelude.{[], ◌∷◌, ◌+◌, ◌^◌, ◌<◌, ◌≤◌, length};
 ghost use Rattle.words.specs.Words.{signed};
 ghost use Rattle.records.specs.Records.{at, two};

@@ -1,5 +1,6 @@
 // The latest retiming: one constant is added to the totals that the rounds leave, so that the smallest start is 0. Assumes nothing.
 #![tactic(auto)]
+
 ghost use Rattle.std.specs.Prelude.{◌≡◌, ℕ, ◌<◌, ◌≤◌};
 ghost use Rattle.std.specs.Int.{w32};
 ghost use Rattle.std.proofs.Common.{SFits};

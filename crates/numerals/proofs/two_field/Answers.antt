@@ -1,0 +1,6 @@
+-- `numerals::two_field` meets its contract: the number is the two bytes'. Assumes nothing.
+use borrow.Author.Rules.{rules}
+use Rattle.numerals.proofs.two_field.Goals as goal
+
+pub returns : goal.returns
+returns c = rw c.two_at.ensures at c.field.ensures
