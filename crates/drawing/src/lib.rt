@@ -1,5 +1,6 @@
 // The plan of a sheet that folds, drawn into the lent buffer: its header, and the records of each sort behind one another.
 #![tactic(auto)]
+
 ghost use Rattle.std.specs.Prelude.{◌≡◌, ◌+◌, ◌-◌, ◌*◌, ◌<◌, ◌≤◌, length};
 ghost use Rattle.std.specs.Int.Count.{ones};
 ghost use Rattle.records.specs.Records.{most_units, over};

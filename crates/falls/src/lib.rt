@@ -2,6 +2,7 @@
 // and round a wire is kept by which its total fell. Followed back from a node that fell with the last round, these are a walk of as
 // many wires as there are nodes, with a total below that of all shorter walks. Assumes nothing.
 #![tactic(auto)]
+
 ghost use Rattle.std.specs.Prelude.{◌≡◌, false, ◌*◌, ◌≤◌, length, take};
 ghost use Rattle.records.specs.Records.{most_nodes};
 ghost use Rattle.folding.specs.Walks.{foldable};

@@ -1,5 +1,6 @@
 // The lines of a plan, each from the record that it shows, read where it stands.
 #![tactic(auto)]
+
 ghost use Rattle.std.specs.Prelude.{◌+◌, ◌*◌, ◌^◌, ◌<◌, ◌≤◌, length};
 ghost use Rattle.records.specs.Records.{at, two};
 ghost use Rattle.plans.specs.Plan.{plan_unit_at, plan_node_at, switch_at, plan_read};

@@ -1,6 +1,7 @@
 // The loop that is shown for a sheet that does not fold: the first part of a falling walk that closes, turned to its lowest wire.
 // Assumes nothing.
 #![tactic(auto)]
+
 ghost use Rattle.std.specs.Prelude.{◌≡◌, false, ◌++◌, ◌+◌, ◌*◌, ◌<◌, ◌≤◌, length, get_or, take, drop};
 ghost use Rattle.records.specs.Records.{most_nodes};
 ghost use Rattle.sheets.specs.Sheet.{sheet_format};
