@@ -1,6 +1,7 @@
 // The planner: any bytes as a sheet in, and a plan, a loop or one numbered refusal out. The sheet is judged first, then the lent
 // buffer, then whether the sheet folds; a refusal other than 6 changes nothing.
 #![tactic(auto)]
+
 ghost use Rattle.std.specs.Prelude.{◌≡◌, false, ◌*◌, ◌≤◌, length};
 ghost use Rattle.records.specs.Records.{over};
 ghost use Rattle.records.specs.Answers.{reason_number};

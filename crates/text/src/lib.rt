@@ -1,6 +1,7 @@
 // The text of a plan, of an unfoldable sheet's loop and of a refusal, put into a lent buffer. Every call takes any bytes: they are
 // judged first, then the text is measured, by writing it where there is no room, and a refusal changes nothing.
 #![tactic(auto)]
+
 ghost use Rattle.std.specs.Prelude.{◌≡◌, ◌≤◌};
 ghost use Rattle.records.specs.Answers.{reason_number};
 ghost use Rattle.plans.specs.Plan.{plan_read};
