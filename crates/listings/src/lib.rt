@@ -1,5 +1,6 @@
 // The listing of any bytes as a sheet: the text of what the planner answers on them and leaves. Assumes nothing.
 #![tactic(auto)]
+
 ghost use Rattle.std.specs.Prelude.{◌≡◌, take};
 ghost use Rattle.text.specs.Texting.{texted_number, texted_length, Texting};
 ghost use Rattle.listings.specs.Listing.{Listing};

@@ -1,0 +1,11 @@
+-- `cases::show_records` meets its contract: no more turns than bytes. Assumes nothing.
+use Prim.Native.Nat.{◌≤◌, ◌-◌}
+use lib.ListN.{length}
+use borrow.Author.Rules.{rules}
+use Rattle.cases.proofs.show_records.Given as goal
+
+abbrev pub invariant-loop-turns : goal.invariant-loop-turns
+invariant-loop-turns l = 0 ≤ l.turns
+
+abbrev pub decreases-loop-turns : goal.decreases-loop-turns
+decreases-loop-turns l = length l.bytes - l.turns
