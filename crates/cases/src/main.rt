@@ -2,11 +2,13 @@
 // rest was kept, the live counts of its slots, and the cycles at which a node is live in one. Input and print are written by
 // tests/cases.py. Assumes nothing.
 #![tactic(auto)]
+
 use planner::Planned;
 use plans::Plan;
-use scripts::reading::{byte, decode, front, pair, part, place};
+use scripts::reading::{byte, decode, front, pair, part, place, read_full};
 use scripts::showing::{print, print_number};
 use sheets::Sheet;
+use std::io;
 
 // What the buffer holds before each call.
 const BEFORE: u8 = 170;
@@ -20,15 +22,15 @@ struct State {
 }
 
 // 1: a length and a title.
-fn title(job: &[u8], s: State) -> State {
+fn title(rt: &impl Print, job: &[u8], s: State) -> io::Result<State> {
     let n = byte(job, s.at) as usize;
-    print(part(job, place(s.at, 1), n));
-    print(b"\n");
-    State {
+    print(rt, part(job, place(s.at, 1), n))?;
+    print(rt, b"\n")?;
+    Ok(State {
         at: place(s.at, place(n, 1)),
         sheet: s.sheet,
         length: s.length,
-    }
+    })
 }
 
 // The length of the record whose mark has this second letter.
@@ -48,35 +50,36 @@ fn record_length(letter: u8) -> usize {
     Plan::LOOP
 }
 
-fn print_byte(b: u8) {
-    print_number(b as u64);
+fn print_byte(rt: &impl Print, b: u8) -> io::Result<()> {
+    print_number(rt, b as u64)
 }
 
 // A record: its mark, and the bytes behind it.
-fn show_record(record: &[u8]) {
-    print(b"  ");
-    print(part(record, 0, 2));
+fn show_record(rt: &impl Print, record: &[u8]) -> io::Result<()> {
+    print(rt, b"  ")?;
+    print(rt, part(record, 0, 2))?;
     let mut i = 2;
     while i < record.len() {
-        print_byte(record[i]);
+        print_byte(rt, record[i])?;
         i += 1;
     }
-    print(b"\n");
+    print(rt, b"\n")
 }
 
 // The records that stand in the bytes, of which there are no more than bytes.
-fn show_records(bytes: &[u8]) {
+fn show_records(rt: &impl Print, bytes: &[u8]) -> io::Result<()> {
     let mut at = 0;
     let mut turns = 0;
     while turns < bytes.len() {
         if bytes.len() <= at {
-            return;
+            return Ok(());
         }
         let n = record_length(byte(bytes, place(at, 1)));
-        show_record(part(bytes, at, n));
+        show_record(rt, part(bytes, at, n))?;
         at = place(at, n);
         turns += 1;
     }
+    Ok(())
 }
 
 // Whether all bytes are as before.
@@ -100,53 +103,53 @@ fn written(answer: Planned) -> usize {
 }
 
 // The answer's number, its length, and the records that were written.
-fn show_planned(answer: Planned, buffer: &[u8]) {
+fn show_planned(rt: &impl Print, answer: Planned, buffer: &[u8]) -> io::Result<()> {
     let n = written(answer);
-    print(b"plan");
-    print_number(answer.number() as u64);
-    print_number(answer.length());
+    print(rt, b"plan")?;
+    print_number(rt, answer.number() as u64)?;
+    print_number(rt, answer.length())?;
     if kept(part(buffer, n, buffer.len())) {
-        print(b", the rest kept");
+        print(rt, b", the rest kept")?;
     }
-    print(b"\n");
-    show_records(part(buffer, 0, n));
+    print(rt, b"\n")?;
+    show_records(rt, part(buffer, 0, n))
 }
 
-fn plan_into(sheet: &[u8], buffer: &mut [u8]) {
+fn plan_into(rt: &impl Print, sheet: &[u8], buffer: &mut [u8]) -> io::Result<()> {
     let answer = planner::plan(sheet, buffer);
-    show_planned(answer, buffer);
+    show_planned(rt, answer, buffer)
 }
 
 // 2: the room in two bytes, the sheet's length in two, and the sheet.
-fn plan(job: &[u8], s: State) -> State {
+fn plan(rt: &impl Print, job: &[u8], s: State) -> io::Result<State> {
     let room = pair(job, s.at);
     let n = pair(job, place(s.at, 2));
     let at = place(s.at, 4);
     let mut buffer = [BEFORE; 2048];
-    plan_into(part(job, at, n), front(&mut buffer[..], room));
-    State {
+    plan_into(rt, part(job, at, n), front(&mut buffer[..], room))?;
+    Ok(State {
         at: place(at, n),
         sheet: at,
         length: n,
-    }
+    })
 }
 
 // 3: the live count of each slot of the last sheet, so many slots.
-fn live(job: &[u8], s: State) -> State {
+fn live(rt: &impl Print, job: &[u8], s: State) -> io::Result<State> {
     let sheet = part(job, s.sheet, s.length);
     let n = byte(job, s.at);
-    print(b"live");
+    print(rt, b"live")?;
     let mut slot = 0;
     while slot < n {
-        print_number(planner::figures::live_in(sheet, slot) as u64);
+        print_number(rt, planner::figures::live_in(sheet, slot) as u64)?;
         slot += 1;
     }
-    print(b"\n");
-    State {
+    print(rt, b"\n")?;
+    Ok(State {
         at: place(s.at, 1),
         sheet: s.sheet,
         length: s.length,
-    }
+    })
 }
 
 // Where wire e of a sheet stands, and switch e of its plan.
@@ -198,41 +201,42 @@ fn leaves_at(sheet: &[u8], node: u8) -> usize {
     )
 }
 
-fn show_cycle(cycle: usize, fold: u8, slot: u8) {
+fn show_cycle(rt: &impl Print, cycle: usize, fold: u8, slot: u8) -> io::Result<()> {
     if fold == 0 {
-        return;
+        return Ok(());
     }
     if cycle % (fold as usize) == slot as usize {
-        print_number(cycle as u64);
+        print_number(rt, cycle as u64)?;
     }
+    Ok(())
 }
 
 // The cycles at which the node's word is live in a slot.
-fn show_live(sheet: &[u8], plan: &[u8], node: u8, slot: u8) {
+fn show_live(rt: &impl Print, sheet: &[u8], plan: &[u8], node: u8, slot: u8) -> io::Result<()> {
     let mut cycle = leaves_at(sheet, node);
     let last = place(cycle, longest_tap(sheet, plan, node));
-    print(b"live in the slot at");
+    print(rt, b"live in the slot at")?;
     while cycle < last {
         cycle += 1;
-        show_cycle(cycle, byte(sheet, 2), slot);
+        show_cycle(rt, cycle, byte(sheet, 2), slot)?;
     }
-    print(b"\n");
+    print(rt, b"\n")
 }
 
 // 4: a node and a slot of the last sheet.
-fn live_at(job: &[u8], s: State) -> State {
+fn live_at(rt: &impl Print, job: &[u8], s: State) -> io::Result<State> {
     let sheet = part(job, s.sheet, s.length);
     let mut plan = [0u8; 2048];
     planner::plan(sheet, &mut plan);
-    show_live(sheet, &plan, byte(job, s.at), byte(job, place(s.at, 1)));
-    State {
+    show_live(rt, sheet, &plan, byte(job, s.at), byte(job, place(s.at, 1)))?;
+    Ok(State {
         at: place(s.at, 2),
         sheet: s.sheet,
         length: s.length,
-    }
+    })
 }
 
-fn command(job: &[u8], s: State) -> State {
+fn command(rt: &impl Print, job: &[u8], s: State) -> io::Result<State> {
     let op = byte(job, s.at);
     let next = State {
         at: place(s.at, 1),
@@ -240,15 +244,15 @@ fn command(job: &[u8], s: State) -> State {
         length: s.length,
     };
     match op {
-        1 => title(job, next),
-        2 => plan(job, next),
-        3 => live(job, next),
-        _ => live_at(job, next),
+        1 => title(rt, job, next),
+        2 => plan(rt, job, next),
+        3 => live(rt, job, next),
+        _ => live_at(rt, job, next),
     }
 }
 
 // All commands, of which there are no more than bytes.
-fn run(job: &[u8]) {
+fn run(rt: &impl Print, job: &[u8]) -> io::Result<()> {
     let mut s = State {
         at: 0,
         sheet: 0,
@@ -257,17 +261,19 @@ fn run(job: &[u8]) {
     let mut turns = 0;
     while turns < job.len() {
         if job.len() <= s.at {
-            return;
+            return Ok(());
         }
-        s = command(job, s);
+        s = command(rt, job, s)?;
         turns += 1;
     }
+    Ok(())
 }
 
-fn main() {
-    let mut text = io::large_buffer();
-    let n = io::read_full(0, &mut text);
+fn main(rt: HostRuntime) -> io::Result<()> {
+    let mut text = [0u8; 65536];
+    let mut input = rt.stdin();
+    let n = read_full(&mut input, &mut text)?;
     let mut job = [0u8; 32768];
     let digits = decode(&text[..n], &mut job[..]);
-    run(part(&job[..], 0, digits / 2));
+    run(&rt, part(&job[..], 0, digits / 2))
 }

@@ -1,10 +1,12 @@
 // The calls by example: a sheet is planned, its plan's memory measured and cleared, and the plan stepped for sixteen cycles.
 // The filter is the mean of two angles, 337.5 degrees on channel 5 and 45 degrees on channel 2: over the seam it is 11.25, 0x08000000.
 #![tactic(auto)]
+
 use machine::{Needed, Stepped};
 use planner::Planned;
 use scripts::reading::part;
 use scripts::showing::{print, print_number, print_words};
+use std::io;
 
 // N 4; a port unit, an adder and a multiplier of depth 2; two ports, their difference, its half, and the sum with the first.
 const SHEET: [u8; 83] = *b"FH\x04\x03\x05\x05\
@@ -13,52 +15,51 @@ FN\x00\x00\x00\x05\x00FN\x00\x01\x00\x02\x00FN\x01\x02\x02\x00\x00FN\x02\x03\x03
 FE\x01\x02\x00\x00FE\x00\x02\x01\x00FE\x02\x03\x00\x00FE\x00\x04\x00\x00FE\x03\x04\x01\x00";
 
 // One cycle with the two angles on their channels, and the words that leave the three units.
-fn cycle(plan: &[u8], memory: &mut [u32]) {
+fn cycle(rt: &impl Print, plan: &[u8], memory: &mut [u32]) -> io::Result<()> {
     let mut channels = [0u32; 16];
     channels[5] = 0xf000_0000;
     channels[2] = 0x2000_0000;
     let mut out = [0u32; 3];
     let answer = machine::step(plan, memory, &channels, &mut out);
     if let Stepped::Done = answer {
-        print_words(&out);
+        print_words(rt, &out)?;
     }
-    print(b"\n");
+    print(rt, b"\n")
 }
 
-fn run(plan: &[u8], memory: &mut [u32]) {
+fn run(rt: &impl Print, plan: &[u8], memory: &mut [u32]) -> io::Result<()> {
     machine::clear(plan, memory);
     let mut t = 0;
     while t < 16 {
-        print(b"cycle");
-        print_number(t);
-        cycle(plan, memory);
+        print(rt, b"cycle")?;
+        print_number(rt, t)?;
+        cycle(rt, plan, memory)?;
         t += 1;
     }
+    Ok(())
 }
 
 // A plan's size and its memory's, and sixteen cycles.
-fn show(plan: &[u8]) {
+fn show(rt: &impl Print, plan: &[u8]) -> io::Result<()> {
     let needed = machine::memory_words(plan);
     let Needed::Words(words) = needed else {
-        print(b"no plan\n");
-        return;
+        return print(rt, b"no plan\n");
     };
-    print(b"plan of");
-    print_number(plan.len() as u64);
-    print(b" bytes, memory of");
-    print_number(words as u64);
-    print(b" words\n");
+    print(rt, b"plan of")?;
+    print_number(rt, plan.len() as u64)?;
+    print(rt, b" bytes, memory of")?;
+    print_number(rt, words as u64)?;
+    print(rt, b" words\n")?;
     let mut memory = [0u32; 64];
-    run(plan, &mut memory);
+    run(rt, plan, &mut memory)
 }
 
-fn main() {
+fn main(rt: HostRuntime) -> io::Result<()> {
     let sheet = SHEET;
     let mut plan = [0u8; 256];
     let answer = planner::plan(&sheet, &mut plan);
     let Planned::Done(n) = answer else {
-        print(b"refused\n");
-        return;
+        return print(&rt, b"refused\n");
     };
-    show(part(&plan, 0, n));
+    show(&rt, part(&plan, 0, n))
 }

@@ -1,10 +1,12 @@
 // Reads a folding sheet on standard input and prints its plan, or why there is none. What it prints is what `listings::listing`
 // leaves, and is held to the file stdout.
 #![tactic(auto)]
-use libc::{STDIN_FILENO, STDOUT_FILENO};
+
 use listings::listing;
 use plans::Plan;
+use scripts::reading::read_full;
 use sheets::Sheet;
+use std::io;
 use text::Texted;
 
 // The longest sheet and one byte more, so that a longer one is refused by its length.
@@ -21,23 +23,26 @@ const PLAN: usize = Plan::HEADER
     + Plan::SWITCH * Sheet::MOST_WIRES;
 
 // The first n bytes of a text.
-fn print(text: &[u8], n: usize) {
+fn print(rt: &impl Print, text: &[u8], n: usize) -> io::Result<()> {
     if n <= text.len() {
-        io::write_all(STDOUT_FILENO, &text[..n]);
+        rt.write_all(&text[..n])?;
     }
+    Ok(())
 }
 
-fn print_answer(text: &[u8], answer: Texted) {
+fn print_answer(rt: &impl Print, text: &[u8], answer: Texted) -> io::Result<()> {
     if let Texted::Done(n) = answer {
-        print(text, n);
+        print(rt, text, n)?;
     }
+    Ok(())
 }
 
-fn main() {
+fn main(rt: HostRuntime) -> io::Result<()> {
     let mut sheet = [0u8; SHEET];
     let mut plan = [0u8; PLAN];
     let mut out = [0u8; Texted::LONGEST];
-    let n = io::read_full(STDIN_FILENO, &mut sheet);
+    let mut input = rt.stdin();
+    let n = read_full(&mut input, &mut sheet)?;
     let answer = listing(&sheet[..n], &mut plan, &mut out);
-    print_answer(&out, answer);
+    print_answer(&rt, &out, answer)
 }

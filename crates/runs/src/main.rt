@@ -2,9 +2,11 @@
 // print from the unfolded graph. The input is hexadecimal digits, a command a line; all other characters, capitals too, are skipped.
 // Assumes nothing.
 #![tactic(auto)]
+
 use scripts::filling::{fill, store};
-use scripts::reading::{byte, decode, pair, part, place, within, word};
+use scripts::reading::{byte, decode, pair, part, place, read_full, within, word};
 use scripts::showing::{print, print_number, print_words};
+use std::io;
 
 // How far the words of neighbouring channels stand apart.
 const APART: u32 = 0x9e37_79b9;
@@ -37,11 +39,11 @@ fn skip(s: State, n: usize) -> State {
 }
 
 // 1: a length and a title.
-fn title(job: &[u8], s: State) -> State {
+fn title(rt: &impl Print, job: &[u8], s: State) -> io::Result<State> {
     let n = byte(job, s.at) as usize;
-    print(part(job, place(s.at, 1), n));
-    print(b"\n");
-    skip(s, place(n, 1))
+    print(rt, part(job, place(s.at, 1), n))?;
+    print(rt, b"\n")?;
+    Ok(skip(s, place(n, 1)))
 }
 
 // 2: the plan's length in two bytes, and the plan.
@@ -85,25 +87,32 @@ fn put(job: &[u8], s: State, memory: &mut [u32]) -> State {
 }
 
 // 6: clear.
-fn clear(plan: &[u8], s: State, memory: &mut [u32]) {
+fn clear(rt: &impl Print, plan: &[u8], s: State, memory: &mut [u32]) -> io::Result<()> {
     let m = within(s.memory, memory);
     let answer = machine::clear(plan, &mut memory[..m]);
-    print(b"clear");
-    print_number(answer.number() as u64);
-    print(b"\n");
+    print(rt, b"clear")?;
+    print_number(rt, answer.number() as u64)?;
+    print(rt, b"\n")
 }
 
 // 7: how many words the plan's memory has.
-fn count_words(plan: &[u8]) {
+fn count_words(rt: &impl Print, plan: &[u8]) -> io::Result<()> {
     let needed = machine::memory_words(plan);
-    print(b"words");
-    print_number(needed.number() as u64);
-    print_number(needed.words());
-    print(b"\n");
+    print(rt, b"words")?;
+    print_number(rt, needed.number() as u64)?;
+    print_number(rt, needed.words())?;
+    print(rt, b"\n")
 }
 
 // One step with x on channel 0.
-fn step(plan: &[u8], s: State, x: u32, memory: &mut [u32], out: &mut [u32]) {
+fn step(
+    rt: &impl Print,
+    plan: &[u8],
+    s: State,
+    x: u32,
+    memory: &mut [u32],
+    out: &mut [u32],
+) -> io::Result<()> {
     let mut channels = [0u32; 20];
     fill(&mut channels[..], x, APART);
     let m = within(s.memory, memory);
@@ -113,74 +122,88 @@ fn step(plan: &[u8], s: State, x: u32, memory: &mut [u32], out: &mut [u32]) {
     let number = answer.number();
     if number == 0 {
         let units = within(byte(plan, 3) as usize, out);
-        print_words(&out[..units]);
-        print(b",");
+        print_words(rt, &out[..units])?;
+        print(rt, b",")?;
     } else {
-        print(b" refused");
-        print_number(number as u64);
+        print(rt, b" refused")?;
+        print_number(rt, number as u64)?;
     }
+    Ok(())
 }
 
 // 8: a count, and a word for each step.
-fn steps(job: &[u8], plan: &[u8], s: State, memory: &mut [u32], out: &mut [u32]) -> State {
+fn steps(
+    rt: &impl Print,
+    job: &[u8],
+    plan: &[u8],
+    s: State,
+    memory: &mut [u32],
+    out: &mut [u32],
+) -> io::Result<State> {
     let n = byte(job, s.at) as usize;
     let mut at = place(s.at, 1);
     let mut i = 0;
     while i < n {
-        step(plan, s, word(job, at), memory, out);
+        step(rt, plan, s, word(job, at), memory, out)?;
         at = place(at, 4);
         i += 1;
     }
-    print(b"\n");
-    go(s, at)
+    print(rt, b"\n")?;
+    Ok(go(s, at))
 }
 
 // 9: how many words of the memory are shown, two bytes.
-fn show(job: &[u8], s: State, memory: &[u32]) -> State {
+fn show(rt: &impl Print, job: &[u8], s: State, memory: &[u32]) -> io::Result<State> {
     let e = within(pair(job, s.at), memory);
-    print(b"memory");
-    print_words(&memory[..e]);
-    print(b"\n");
-    skip(s, 2)
+    print(rt, b"memory")?;
+    print_words(rt, &memory[..e])?;
+    print(rt, b"\n")?;
+    Ok(skip(s, 2))
 }
 
 // 10: the lent output.
-fn show_output(s: State, out: &[u32]) {
+fn show_output(rt: &impl Print, s: State, out: &[u32]) -> io::Result<()> {
     let o = within(s.out, out);
-    print(b"output");
-    print_words(&out[..o]);
-    print(b"\n");
+    print(rt, b"output")?;
+    print_words(rt, &out[..o])?;
+    print(rt, b"\n")
 }
 
-fn command(job: &[u8], s: State, memory: &mut [u32], out: &mut [u32]) -> State {
+fn command(
+    rt: &impl Print,
+    job: &[u8],
+    s: State,
+    memory: &mut [u32],
+    out: &mut [u32],
+) -> io::Result<State> {
     let op = byte(job, s.at);
     let s = skip(s, 1);
     let plan = part(job, s.plan, s.length);
     match op {
-        1 => title(job, s),
-        2 => take_plan(job, s),
-        3 => lend(job, s),
-        4 => strew(job, s, memory, out),
-        5 => put(job, s, memory),
+        1 => title(rt, job, s),
+        2 => Ok(take_plan(job, s)),
+        3 => Ok(lend(job, s)),
+        4 => Ok(strew(job, s, memory, out)),
+        5 => Ok(put(job, s, memory)),
         6 => {
-            clear(plan, s, memory);
-            s
+            clear(rt, plan, s, memory)?;
+            Ok(s)
         }
         7 => {
-            count_words(plan);
-            s
+            count_words(rt, plan)?;
+            Ok(s)
         }
-        8 => steps(job, plan, s, memory, out),
-        9 => show(job, s, memory),
+        8 => steps(rt, job, plan, s, memory, out),
+        9 => show(rt, job, s, memory),
         _ => {
-            show_output(s, out);
-            s
+            show_output(rt, s, out)?;
+            Ok(s)
         }
     }
 }
 
 // All commands, of which there are no more than bytes.
-fn run(job: &[u8], memory: &mut [u32], out: &mut [u32]) {
+fn run(rt: &impl Print, job: &[u8], memory: &mut [u32], out: &mut [u32]) -> io::Result<()> {
     let mut s = State {
         at: 0,
         plan: 0,
@@ -192,19 +215,26 @@ fn run(job: &[u8], memory: &mut [u32], out: &mut [u32]) {
     let mut turns = 0;
     while turns < job.len() {
         if job.len() <= s.at {
-            return;
+            return Ok(());
         }
-        s = command(job, s, memory, out);
+        s = command(rt, job, s, memory, out)?;
         turns += 1;
     }
+    Ok(())
 }
 
-fn main() {
-    let mut text = io::large_buffer();
-    let n = io::read_full(0, &mut text);
+fn main(rt: HostRuntime) -> io::Result<()> {
+    let mut text = [0u8; 65536];
+    let mut input = rt.stdin();
+    let n = read_full(&mut input, &mut text)?;
     let mut job = [0u8; 32768];
     let digits = decode(&text[..n], &mut job[..]);
     let mut memory = [0u32; 512];
     let mut out = [0u32; 12];
-    run(part(&job[..], 0, digits / 2), &mut memory[..], &mut out[..]);
+    run(
+        &rt,
+        part(&job[..], 0, digits / 2),
+        &mut memory[..],
+        &mut out[..],
+    )
 }

@@ -1,6 +1,23 @@
 // Fields of the commands, read where they stand; beyond the end all bytes are 0.
-ghost use Rattle.std.specs.Prelude.{◌≤◌};
-ghost use Rattle.io.specs.Counts.{IsPrefixLen};
+ghost use Rattle.std.specs.Prelude.{◌≡◌, ◌≤◌, IfOk, length, take};
+
+use std::io;
+use std::io::Read;
+
+// Reads until buf is full or the input ends; answers how many bytes stand at its start then.
+pub fn read_full<R: Read>(input: &mut R, buf: &mut [u8]) -> io::Result<usize>
+    ensures { IfOk result (λ n. n ≤ length buf.new) }
+{
+    let mut done = 0;
+    while done < buf.len() {
+        let n = input.read(&mut buf[done..])?;
+        if n == 0 {
+            break;
+        }
+        done += n;
+    }
+    Ok(done)
+}
 
 // a hexadecimal digit's number, and 16 for any other character
 fn digit(c: u8) -> u8 {
@@ -60,7 +77,8 @@ fn lesser(a: usize, b: usize) -> usize
 
 // n, or as many words as there are.
 pub fn within(n: usize, words: &[u32]) -> usize
-    ensures { IsPrefixLen result words.now }
+    ensures within { result ≤ length words.now }
+    ensures front { result ≡ length (take result words.now) }
 {
     lesser(n, words.len())
 }

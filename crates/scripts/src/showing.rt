@@ -1,37 +1,33 @@
 // What the programs print: text, numbers, and words as eight hexadecimal digits.
-use libc::STDOUT_FILENO;
+use std::io;
 
-pub fn print(text: &[u8]) {
-    io::write_all(STDOUT_FILENO, text);
+pub fn print(rt: &impl Print, text: &[u8]) -> io::Result<()> {
+    rt.write_all(text)
 }
 
-pub fn print_number(n: u64) {
-    print(b" ");
-    io::print_decimal(STDOUT_FILENO, n);
+pub fn print_number(rt: &impl Print, n: u64) -> io::Result<()> {
+    print!(rt; " {n}")
 }
 
-fn print_word(x: u32) {
-    print(b" ");
-    io::print_hex(STDOUT_FILENO, x as u64, 8);
+fn print_word(rt: &impl Print, x: u32) -> io::Result<()> {
+    print!(rt; " {x:08x}")
 }
 
-pub fn print_words(words: &[u32]) {
-    let mut i = 0;
-    while i < words.len() {
-        print_word(words[i]);
-        i += 1;
+pub fn print_words(rt: &impl Print, words: &[u32]) -> io::Result<()> {
+    for x in words {
+        print_word(rt, *x)?;
     }
+    Ok(())
 }
 
-fn print_byte(b: u8) {
-    io::print_hex(STDOUT_FILENO, b as u64, 2);
+fn print_byte(rt: &impl Print, b: u8) -> io::Result<()> {
+    print!(rt; "{b:02x}")
 }
 
 // Bytes as two hexadecimal digits each.
-pub fn print_bytes(bytes: &[u8]) {
-    let mut i = 0;
-    while i < bytes.len() {
-        print_byte(bytes[i]);
-        i += 1;
+pub fn print_bytes(rt: &impl Print, bytes: &[u8]) -> io::Result<()> {
+    for b in bytes {
+        print_byte(rt, *b)?;
     }
+    Ok(())
 }

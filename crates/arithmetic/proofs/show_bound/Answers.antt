@@ -21,6 +21,6 @@ against_zero x y h k =
     fits (pos 0 -ℤ floor (pos x -ℤ pos y) 4) (omega (arith, raw, bound, less)) (omega (arith, raw, bound, less))
 
 pub print_bound-requires : goal.print_bound-requires
-print_bound-requires c =
+print_bound-requires g c =
     let a = c.args in
     rw (c.bound.ensures, c.raw-wait.ensures) (against_zero (4 * a.delays + 0) (a.depth + 0) (omega arith) (omega arith))

@@ -4,7 +4,7 @@ use borrow.Author.Rules.{rules}
 use Rattle.cases.proofs.live.Given as goal
 
 abbrev pub invariant-loop-slot : goal.invariant-loop-slot
-invariant-loop-slot l = 0 ≤ l.slot
+invariant-loop-slot g l = 0 ≤ l.slot
 
 abbrev pub decreases-loop-slot : goal.decreases-loop-slot
-decreases-loop-slot l = l.n - l.slot
+decreases-loop-slot g l = l.n - l.slot

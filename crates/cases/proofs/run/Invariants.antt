@@ -5,7 +5,7 @@ use borrow.Author.Rules.{rules}
 use Rattle.cases.proofs.run.Given as goal
 
 abbrev pub invariant-loop-turns : goal.invariant-loop-turns
-invariant-loop-turns l = 0 ≤ l.turns
+invariant-loop-turns g l = 0 ≤ l.turns
 
 abbrev pub decreases-loop-turns : goal.decreases-loop-turns
-decreases-loop-turns l = length l.job - l.turns
+decreases-loop-turns g l = length l.job - l.turns

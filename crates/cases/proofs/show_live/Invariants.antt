@@ -4,7 +4,7 @@ use borrow.Author.Rules.{rules}
 use Rattle.cases.proofs.show_live.Given as goal
 
 abbrev pub invariant-loop-cycle : goal.invariant-loop-cycle
-invariant-loop-cycle l = 0 ≤ l.cycle
+invariant-loop-cycle g l = 0 ≤ l.cycle
 
 abbrev pub decreases-loop-cycle : goal.decreases-loop-cycle
-decreases-loop-cycle l = l.last - l.cycle
+decreases-loop-cycle g l = l.last - l.cycle

@@ -5,7 +5,7 @@ use borrow.Author.Rules.{rules}
 use Rattle.cases.proofs.show_record.Given as goal
 
 abbrev pub invariant-loop-i : goal.invariant-loop-i
-invariant-loop-i l = 0 ≤ l.i
+invariant-loop-i g l = 0 ≤ l.i
 
 abbrev pub decreases-loop-i : goal.decreases-loop-i
-decreases-loop-i l = length l.record - l.i
+decreases-loop-i g l = length l.record - l.i

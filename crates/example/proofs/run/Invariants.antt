@@ -6,7 +6,7 @@ use borrow.Author.Rules.{rules}
 use Rattle.example.proofs.run.Given as goal
 
 abbrev pub invariant-loop-t : goal.invariant-loop-t
-invariant-loop-t l = length l.memory ≡ length l.initial.memory
+invariant-loop-t g l = length l.memory ≡ length l.initial.memory
 
 abbrev pub decreases-loop-t : goal.decreases-loop-t
-decreases-loop-t l = 16 - l.t
+decreases-loop-t g l = 16 - l.t

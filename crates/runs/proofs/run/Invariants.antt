@@ -6,7 +6,7 @@ use borrow.Author.Rules.{rules}
 use Rattle.runs.proofs.run.Given as goal
 
 abbrev pub invariant-loop-turns : goal.invariant-loop-turns
-invariant-loop-turns l = (length l.memory ≡ length l.initial.memory) × (length l.out ≡ length l.initial.out)
+invariant-loop-turns g l = (length l.memory ≡ length l.initial.memory) × (length l.out ≡ length l.initial.out)
 
 abbrev pub decreases-loop-turns : goal.decreases-loop-turns
-decreases-loop-turns l = length l.job - l.turns
+decreases-loop-turns g l = length l.job - l.turns

@@ -6,7 +6,7 @@ use borrow.Author.Rules.{rules}
 use Rattle.runs.proofs.steps.Given as goal
 
 abbrev pub invariant-loop-i : goal.invariant-loop-i
-invariant-loop-i l = (length l.memory ≡ length l.initial.memory) × (length l.out ≡ length l.initial.out)
+invariant-loop-i g l = (length l.memory ≡ length l.initial.memory) × (length l.out ≡ length l.initial.out)
 
 abbrev pub decreases-loop-i : goal.decreases-loop-i
-decreases-loop-i l = l.n - l.i
+decreases-loop-i g l = l.n - l.i

@@ -3,7 +3,7 @@ use Rattle.std.proofs.Common.{◌-◌, ◌≤◌, length, rules}
 use Rattle.vectors.proofs.replay_all.Given as goal
 
 abbrev pub invariant-loop-turns : goal.invariant-loop-turns
-invariant-loop-turns l = 0 ≤ l.turns
+invariant-loop-turns g l = 0 ≤ l.turns
 
 abbrev pub decreases-loop-turns : goal.decreases-loop-turns
-decreases-loop-turns l = length l.job - l.turns
+decreases-loop-turns g l = length l.job - l.turns
