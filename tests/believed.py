@@ -13,7 +13,7 @@ CRATES = ROOT / "crates"
 SECTION = "## What to believe, in reading order\n"
 MARK = "-- Only passes between functions: "
 
-USE = re.compile(r"(?:ghost )?use Rattle·(\w+)(?:·specs)?\.specs\.([^\s{;]+?)(?:\.\{(.*)\}| as (\S+));?")
+USE = re.compile(r"(?:ghost )?use Rattle\.(?!std\.|core\.)(\w+)\.specs\.([^\s{;]+?)(?:\.\{(.*)\}| as (\S+));?")
 DEFINED = re.compile(r"(?:abbrev |unfoldable )?pub (?:record |data )?([^\s:]+)")
 FUNCTION = re.compile(r'^pub (extern "C" )?fn (\w+)(.*?)\{$', re.M | re.S)
 
@@ -32,12 +32,12 @@ def meanings(lines):
     for crate, file, names, alias in (found.groups() for found in map(USE.fullmatch, lines) if found):
         own = None
         if file.startswith("declared."):
-            file, _, own = file.removesuffix(".the-variants").rpartition(".")
+            file, _, own = file.removesuffix(".TheVariants").rpartition(".")
         if alias:
             meant[alias] = crate, file, own
         for said in names.split(", ") if names else []:
             name, _, other = said.partition(" as ")
-            meant[(other or name).strip("_")] = crate, file, own or name
+            meant[(other or name).strip("◌")] = crate, file, own or name
     return meant
 
 
@@ -71,7 +71,7 @@ class File:
                 body = self.bodies[self.crate, self.name, found[1]] = []
             if not line.startswith("infix"):
                 body.append(line)
-        self.meant |= {name[2].strip("_"): name for name in self.bodies}
+        self.meant |= {name[2].strip("◌"): name for name in self.bodies}
 
     def named_by(self, name):
         return named("\n".join(self.bodies[name]), self.meant)
@@ -79,7 +79,7 @@ class File:
 
 # the files in reading order, that of crates.txt and in a crate that of its Lib.antt, which names the marked ones last, under a mark
 def files():
-    order = re.findall(r"^(\w+):", (ROOT / "crates.txt").read_text(), re.M)
+    order = re.findall(r"^(\w+)(?: staticlib)?:", (ROOT / "crates.txt").read_text(), re.M)
     for lib in (CRATES / crate / "specs" / "Lib.antt" for crate in order):
         marked = False
         for line in lib.read_text().splitlines() if lib.exists() else []:

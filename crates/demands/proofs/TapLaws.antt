@@ -2,7 +2,7 @@
 use mathlib.Core.Path.{◌≡◌, refl, ap}
 use mathlib.Core.Logic.{inl, inr}
 use mathlib.Core.Bool.{false}
-use Prim.Native.Nat.{ℕ, ◌+◌, ◌*◌, ◌-◌, ◌<◌}
+use Prim.Native.Nat.{ℕ, ◌+◌, ◌*◌, ◌<◌}
 use native.Mathlib.Nat.{mul-le-mul_left}
 use native.Mathlib.Omega.{arith}
 use lib.Dec.{ltb, eqb}

@@ -7,7 +7,7 @@ use native.Mathlib.Omega.{arith}
 use lib.ListN.{length}
 use Rattle.records.specs.Records.{over}
 use Rattle.sheets.specs.declared.Sheet as Head
-use Rattle.sheets.specs.Sheet.{Sheet, sheet_of}
+use Rattle.sheets.specs.Sheet.{sheet_of}
 use Rattle.sheets.proofs.HeldLaws.{units_said, nodes_said, wires_said}
 use Rattle.folding.specs.Walks.{chain}
 use Rattle.folding.specs.Folding.{net}

@@ -20,7 +20,7 @@ use Rattle.times.specs.Times.{eqZ}
 use Rattle.words.proofs.LoopLaws.{passed?}
 use Rattle.records.specs.declared.Node.{Node}
 use Rattle.slots.specs.declared.Slots.{Slots}
-use Rattle.records.specs.Records.{at, two, clashes, occupied}
+use Rattle.records.specs.Records.{at, two, clashes}
 use Rattle.slots.proofs.SlotLaws.{occupied_ones, occupied_most}
 use Rattle.plans.specs.declared.Plan.{Plan as Header}
 use Rattle.plans.specs.Plan.{Plan, PlanUnit, unit_in, node_in, switch_in, plan_read}

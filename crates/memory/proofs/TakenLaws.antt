@@ -12,7 +12,7 @@ use Rattle.records.specs.Records.{at, two, counts_fit}
 use Rattle.records.proofs.ReadingLaws.{Counts, counts_split}
 use Rattle.records.proofs.NodeLaws.{UnitFits, unit_split, NodeFits, node_split}
 use Rattle.plans.specs.declared.Plan as Head
-use Rattle.plans.specs.Plan.{Plan, PlanUnit, unit_in, node_in, switch_in, plan_read}
+use Rattle.plans.specs.Plan.{PlanUnit, unit_in, node_in, switch_in, plan_read}
 use Rattle.plans.specs.Heads.{Whole}
 use Rattle.plans.specs.Judging.{most_chain, longest_tap, idle_slots, figures_right}
 use Rattle.plans.proofs.JudgingLaws.{Judged, judged, SwitchFits, switch_split}

@@ -6,7 +6,7 @@ use native.Mathlib.Omega.{arith}
 use lib.ListN.{length}
 use Rattle.records.proofs.ReadingLaws.{Counts}
 use Rattle.sheets.specs.declared.Sheet as Head
-use Rattle.sheets.specs.Sheet.{Sheet, node_of, wire_of, sheet_of}
+use Rattle.sheets.specs.Sheet.{node_of, wire_of, sheet_of}
 use Rattle.sheets.specs.Sound.{Sound}
 use Rattle.sheets.proofs.SheetLaws.{Passed, passed, sound, counts_of, fold_is, units_is, nodes_is, wires_is}
 use Rattle.waits.specs.Fine.{Fine}

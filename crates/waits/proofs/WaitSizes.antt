@@ -13,7 +13,7 @@ use Rattle.times.specs.Times.{iterations_at}
 use Rattle.words.proofs.Ints.{up, down, timesℤ, le_up, up_le, from_pos}
 use Rattle.words.proofs.FitLaws.{fits, sum_size, dif_size}
 use Rattle.sheets.specs.declared.Sheet as Head
-use Rattle.sheets.specs.Sheet.{Sheet, node_of, wire_of, sheet_of}
+use Rattle.sheets.specs.Sheet.{node_of, wire_of, sheet_of}
 use Rattle.folding.specs.Walks.{start}
 use Rattle.folding.specs.Folding.{net, depth_of, raw, wait, tap}
 use Rattle.folding.proofs.FoldingLaws.{folds_well}

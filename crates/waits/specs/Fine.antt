@@ -6,7 +6,7 @@ use Rattle.words.specs.Loops.{largest}
 use Rattle.times.specs.Times.{iterations_at, cycles_at}
 use Rattle.records.specs.Records.{most_units, most_nodes}
 use Rattle.sheets.specs.declared.Sheet as Head
-use Rattle.sheets.specs.Sheet.{Sheet, node_of, wire_of, sheet_of, sheet_fault}
+use Rattle.sheets.specs.Sheet.{node_of, wire_of, sheet_of, sheet_fault}
 use Rattle.sheets.specs.Answers.{Whole}
 use Rattle.folding.specs.Walks.{start, foldable}
 use Rattle.folding.specs.Folding.{net, tap}

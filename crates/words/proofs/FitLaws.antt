@@ -1,5 +1,5 @@
 -- When a whole number fits a signed width, over the width: by its ups and downs, so that omega shows it. Assumes nothing.
-use Rattle.std.proofs.Common.{◌≡◌, ℕ, zero, suc, ◌+◌, ◌-◌, ◌*◌, ◌^◌, ◌<◌, ◌≤◌, ℤ, pos, negsuc, ◌+ℤ◌, ◌-ℤ◌, ◌*ℤ◌, neg_ℤ, nat_abs, refl, le_trans, lt_of_le_of_lt, mul-le-mul, arith, SFits}
+use Rattle.std.proofs.Common.{◌≡◌, ℕ, zero, suc, ◌+◌, ◌*◌, ◌^◌, ◌<◌, ◌≤◌, ℤ, pos, negsuc, ◌+ℤ◌, ◌-ℤ◌, ◌*ℤ◌, neg_ℤ, nat_abs, refl, le_trans, lt_of_le_of_lt, mul-le-mul, arith, SFits}
 use lib.Signed.{mag, nat_abs-le}
 use mir.Syntax.{Width}
 use mir.Val.{hbits}

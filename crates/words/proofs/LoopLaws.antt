@@ -1,5 +1,5 @@
 -- Laws of the loops.
-use Rattle.std.proofs.Common.{◌≡◌, ℕ, zero, suc, ◌+◌, ◌-◌, ◌<◌, ◌≤◌, Bool, true, false, cond, ◌&&◌, ◌||◌, eqb, ◌⊎◌, List, ◌++◌, length, get_or, sym, refl, ap, ◌∙◌, subst, ap₂, inl, inr, true≢false, eq-or-lt_of_le, add-one, arith, eq-eqb, eqb-true}
+use Rattle.std.proofs.Common.{◌≡◌, ℕ, zero, suc, ◌+◌, ◌<◌, ◌≤◌, Bool, true, false, cond, ◌&&◌, ◌||◌, eqb, ◌⊎◌, List, ◌++◌, length, get_or, sym, refl, ap, ◌∙◌, subst, ap₂, inl, inr, true≢false, eq-or-lt_of_le, add-one, arith, eq-eqb, eqb-true}
 use mathlib.Core.Bool.{and-false, and-or_distrib_left}
 use mathlib.Core.Option.{Option, some, none}
 use Rattle.words.specs.Loops.{tab, every, some_of, total, largest, count, lowest, or_else, joined}

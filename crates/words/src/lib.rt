@@ -1,6 +1,7 @@
 // Words of 32 bits and the graph's arithmetic: sum, difference and scale, and what they are made of. Each gives what its
 // definition in specs/Words.antt says, for all inputs; a signed value is made a word once, at the end. Assumes nothing.
 #![tactic(auto)]
+
 ghost use Rattle.std.specs.Prelude.{◌≡◌, ◌<◌};
 ghost use Rattle.words.specs.Words.{turn, half_turn, floor, residue, signed, sum, difference, scale};
 

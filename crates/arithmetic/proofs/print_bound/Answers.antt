@@ -1,6 +1,5 @@
 -- `arithmetic::print_bound` meets its contract: a bound below 0 has 0 less it above 0. Assumes nothing.
 use mathlib.Core.Path.{sym, ◌∙◌}
-use borrow.Author.Rules.{rules}
 use Rattle.words.proofs.Ints.{ints, difℤ, up_pos, down_pos, ltZ_true, ltZ_false}
 use Rattle.arithmetic.proofs.print_bound.Goals as goal
 

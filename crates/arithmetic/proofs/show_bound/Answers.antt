@@ -4,7 +4,6 @@ use native.Mathlib.Omega.{arith}
 use lib.IntN.{pos, ◌-ℤ◌}
 use mir.Syntax.{w32}
 use mir.Val.{SFits}
-use borrow.Author.Rules.{rules}
 use Rattle.words.specs.Words.{floor}
 use Rattle.words.proofs.Ints.{up, down}
 use Rattle.words.proofs.FitLaws.{fits, dif_size}

@@ -1,7 +1,6 @@
 -- `cases::kept` meets its contract: no more turns than bytes. Assumes nothing.
 use Prim.Native.Nat.{◌≤◌, ◌-◌}
 use lib.ListN.{length}
-use borrow.Author.Rules.{rules}
 use Rattle.cases.proofs.kept.Given as goal
 
 abbrev pub invariant-loop-i : goal.invariant-loop-i

@@ -1,6 +1,5 @@
 -- `cases::live` meets its contract: no more turns than slots. Assumes nothing.
 use Prim.Native.Nat.{◌≤◌, ◌-◌}
-use borrow.Author.Rules.{rules}
 use Rattle.cases.proofs.live.Given as goal
 
 abbrev pub invariant-loop-slot : goal.invariant-loop-slot

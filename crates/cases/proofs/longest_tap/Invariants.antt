@@ -1,6 +1,5 @@
 -- `cases::longest_tap` meets its contract: no more turns than wires. Assumes nothing.
 use Prim.Native.Nat.{◌≤◌, ◌-◌}
-use borrow.Author.Rules.{rules}
 use Rattle.cases.proofs.longest_tap.Given as goal
 
 abbrev pub invariant-loop-e : goal.invariant-loop-e

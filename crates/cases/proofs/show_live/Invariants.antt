@@ -1,6 +1,5 @@
 -- `cases::show_live` meets its contract: the cycle rises to the last. Assumes nothing.
 use Prim.Native.Nat.{◌≤◌, ◌-◌}
-use borrow.Author.Rules.{rules}
 use Rattle.cases.proofs.show_live.Given as goal
 
 abbrev pub invariant-loop-cycle : goal.invariant-loop-cycle

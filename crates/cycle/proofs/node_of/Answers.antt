@@ -4,7 +4,6 @@ use native.Mathlib.Omega.{arith}
 use Rattle.plans.specs.Plan.{PlanNode}
 use Rattle.plans.proofs.WholeLaws.{node_inside, node_so}
 use Rattle.memory.proofs.TakenLaws.{whole_taken}
-use borrow.Author.Rules.{rules}
 use Rattle.cycle.proofs.node_of.Goals as goal
 
 pub node_in-requires : goal.node_in-requires

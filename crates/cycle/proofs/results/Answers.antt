@@ -10,7 +10,6 @@ use Rattle.plans.proofs.WholeLaws.{folds_so}
 use Rattle.memory.proofs.TakenLaws.{whole_taken}
 use Rattle.cycle.proofs.GivenLaws.{turns}
 use Rattle.cycle.proofs.ResultLaws.{results_so}
-use borrow.Author.Rules.{rules}
 use Rattle.cycle.proofs.results.Goals as goal
 
 pub bounds-memory-0 : goal.bounds-memory-0

@@ -1,12 +1,10 @@
 -- `cycle::results_in` meets its contract: what each node of the slot gives goes to its unit. Assumes nothing.
-use Prim.Native.Nat.{ℕ, ◌+◌, ◌-◌, ◌%◌, ◌<◌, ◌≤◌}
+use Prim.Native.Nat.{ℕ, ◌+◌, ◌%◌, ◌<◌}
 use mathlib.Core.Path.{◌≡◌, refl, sym, ap, ◌∙◌, subst}
-use mathlib.Core.Logic.{⊎_elim}
 use mathlib.Core.Bool.{true, ◌&&◌}
 use native.Mathlib.Omega.{arith}
 use lib.Dec.{eqb}
 use lib.ListN.{length, set, length-set, get_or-replicate}
-use borrow.Author.Rules.{rules}
 use Rattle.records.specs.declared.Node.{Node}
 use Rattle.records.specs.Units.{k_fits}
 use Rattle.plans.specs.Plan.{node_in, plan_read}

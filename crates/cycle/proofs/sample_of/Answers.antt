@@ -3,7 +3,6 @@ use mathlib.Core.Path.{ap}
 use native.Mathlib.Omega.{arith}
 use Rattle.records.specs.Records.{at}
 use Rattle.records.proofs.NodeLaws.{channel_below}
-use borrow.Author.Rules.{rules}
 use Rattle.cycle.proofs.sample_of.Goals as goal
 
 pub bounds-samples-channel : goal.bounds-samples-channel

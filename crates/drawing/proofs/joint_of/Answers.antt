@@ -1,6 +1,5 @@
 -- `drawing::joint_of` meets its contract: the wire's ends are read where they stand. Assumes nothing.
 use mathlib.Core.Path.{refl}
-use borrow.Author.Rules.{rules}
 use Rattle.waits.proofs.FineLaws.{leaves_so, meets_so}
 use Rattle.drawing.proofs.joint_of.Goals as goal
 

@@ -1,13 +1,12 @@
 -- `drawing::write_nodes` meets its contract: each turn lays one node behind the last. Assumes nothing.
-use Prim.Native.Nat.{ℕ, ◌+◌, ◌-◌, ◌*◌, ◌≤◌}
+use Prim.Native.Nat.{ℕ, ◌+◌, ◌*◌}
 use mathlib.Core.Path.{◌≡◌, refl, ap, ◌∙◌}
 use native.Mathlib.Omega.{arith}
-use borrow.Author.Rules.{rules}
 use lib.ListN.{length}
 use lib.IntN.{nat_abs}
 use Rattle.times.specs.Times.{iterations_at}
 use Rattle.words.proofs.Ints.{from_pos}
-use Rattle.sheets.specs.Sheet.{sheet_of, node_of}
+use Rattle.sheets.specs.Sheet.{sheet_of}
 use Rattle.plans.specs.Plan.{node_bytes}
 use Rattle.waits.proofs.FineLaws.{few_nodes, nodes_so}
 use Rattle.writing.specs.Laid.{laid}

@@ -1,20 +1,9 @@
 -- `drawing::write_switches` meets its contract: what its loop keeps.
-use Prim.Native.Nat.{ℕ, ◌+◌, ◌-◌, ◌*◌, ◌≤◌}
-use mathlib.Core.Path.{◌≡◌, refl, ap, ◌∙◌}
-use native.Mathlib.Omega.{arith}
-use borrow.Author.Rules.{rules}
+use Prim.Native.Nat.{◌-◌, ◌≤◌}
+use mathlib.Core.Path.{◌≡◌}
 use lib.ListN.{length}
-use lib.IntN.{nat_abs}
-use Rattle.times.specs.Times.{cycles_at}
-use Rattle.words.proofs.Ints.{from_pos}
-use Rattle.sheets.specs.Sheet.{sheet_of}
-use Rattle.plans.specs.Plan.{switch_bytes}
-use Rattle.waits.proofs.FineLaws.{few_wires, wires_so}
 use Rattle.writing.specs.Laid.{laid}
-use Rattle.writing.proofs.LaidLaws.{length_laid}
-use Rattle.drawing.specs.PlanOf.{plan_switch}
-use Rattle.drawing.specs.Laying.{starts_in, switch_records}
-use Rattle.writing.proofs.RecordLaws.{laid_none, laid_more}
+use Rattle.drawing.specs.Laying.{switch_records}
 use Rattle.drawing.proofs.write_switches.Given as goal
 
 abbrev pub invariant-loop-e : goal.invariant-loop-e

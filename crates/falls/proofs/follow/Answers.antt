@@ -1,12 +1,8 @@
 -- `falls::follow` meets its contract: what is walked and what is left to follow back are the whole. Assumes nothing.
-use mathlib.Core.Path.{◌≡◌, refl, ◌∙◌}
-use mathlib.Core.List.{◌++◌}
-use Prim.Native.Nat.{◌-◌, ◌≤◌}
+use mathlib.Core.Path.{refl, ◌∙◌}
 use native.Mathlib.Nat.{sub-zero}
 use native.Mathlib.Omega.{arith}
-use borrow.Author.Rules.{rules}
-use lib.ListN.{length, take, length-set}
-use Rattle.falls.specs.Choices.{back, Backed}
+use lib.ListN.{length-set}
 use Rattle.falls.proofs.BackLaws.{Next, next_of, back_more, back_done}
 use Rattle.falls.proofs.follow.Goals as goal
 use Rattle.falls.proofs.follow.Goals.{In-loop-i}

@@ -1,13 +1,9 @@
 -- `falls::follow` meets its contract: what its loop keeps.
-use mathlib.Core.Path.{◌≡◌, refl, ◌∙◌}
+use mathlib.Core.Path.{◌≡◌}
 use mathlib.Core.List.{◌++◌}
 use Prim.Native.Nat.{◌-◌, ◌≤◌}
-use native.Mathlib.Nat.{sub-zero}
-use native.Mathlib.Omega.{arith}
-use borrow.Author.Rules.{rules}
-use lib.ListN.{length, take, length-set}
+use lib.ListN.{length, take}
 use Rattle.falls.specs.Choices.{back, Backed}
-use Rattle.falls.proofs.BackLaws.{Next, next_of, back_more, back_done}
 use Rattle.falls.proofs.follow.Given as goal
 
 abbrev pub invariant-loop-i : goal.invariant-loop-i

@@ -1,22 +1,19 @@
 -- `falls::keep` meets its contract: in round k + 1, after e wires, the totals are those of a round over these wires from those of round k,
 -- and each node that fell has its choice. Assumes nothing.
 use mathlib.Core.Path.{◌≡◌, refl, sym, ◌∙◌}
-use mathlib.Core.Bool.{false}
-use Prim.Native.Nat.{ℕ, suc, ◌+◌, ◌-◌, ◌*◌, ◌<◌, ◌≤◌}
+use Prim.Native.Nat.{◌+◌, ◌-◌, ◌*◌, ◌<◌}
 use native.Mathlib.Omega.{arith}
 use native.Mathlib.Numerals.{add-one}
 use borrow.Author.Rules.{rules}
 use lib.ListN.{length, length-set}
 use Rattle.times.specs.Times.{iterations_at}
 use Rattle.records.specs.Records.{most_nodes}
-use Rattle.folding.specs.Walks.{better, settled, foldable}
-use Rattle.folding.specs.Round.{round}
+use Rattle.folding.specs.Walks.{better, foldable}
 use Rattle.folding.proofs.RoundLaws.{round_zero}
 use Rattle.rounds.specs.Rounds.{bytes_net}
-use Rattle.rounds.proofs.StepLaws.{Reached, reached_less, reached_past}
+use Rattle.rounds.proofs.StepLaws.{reached_less, reached_past}
 use Rattle.rounds.proofs.RowLaws.{sum_fits, rounded_more}
-use Rattle.falls.specs.Choices.{Falls}
-use Rattle.falls.proofs.KeepLaws.{Picking, picking_none, picking_more, Chosen, chosen_kept, chosen_more, last_fell}
+use Rattle.falls.proofs.KeepLaws.{picking_none, picking_more, chosen_kept, chosen_more, last_fell}
 use Rattle.falls.proofs.keep.Goals as goal
 use Rattle.falls.proofs.keep.Goals.{After-end_at-u, After-end_at-v}
 

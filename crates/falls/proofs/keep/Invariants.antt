@@ -1,21 +1,16 @@
 -- `falls::keep` meets its contract: what its loop keeps.
-use mathlib.Core.Path.{◌≡◌, refl, sym, ◌∙◌}
+use mathlib.Core.Path.{◌≡◌}
 use mathlib.Core.Bool.{false}
 use Prim.Native.Nat.{ℕ, suc, ◌+◌, ◌-◌, ◌*◌, ◌<◌, ◌≤◌}
-use native.Mathlib.Omega.{arith}
-use native.Mathlib.Numerals.{add-one}
-use borrow.Author.Rules.{rules}
-use lib.ListN.{length, length-set}
+use lib.ListN.{length}
 use Rattle.times.specs.Times.{iterations_at}
 use Rattle.records.specs.Records.{most_nodes}
-use Rattle.folding.specs.Walks.{better, settled, foldable}
+use Rattle.folding.specs.Walks.{settled}
 use Rattle.folding.specs.Round.{round}
-use Rattle.folding.proofs.RoundLaws.{round_zero}
 use Rattle.rounds.specs.Rounds.{bytes_net}
-use Rattle.rounds.proofs.StepLaws.{Reached, reached_less, reached_past}
-use Rattle.rounds.proofs.RowLaws.{sum_fits, rounded_more}
+use Rattle.rounds.proofs.StepLaws.{Reached}
 use Rattle.falls.specs.Choices.{Falls}
-use Rattle.falls.proofs.KeepLaws.{Picking, picking_none, picking_more, Chosen, chosen_kept, chosen_more, last_fell}
+use Rattle.falls.proofs.KeepLaws.{Picking, Chosen}
 use Rattle.falls.proofs.keep.Given as goal
 
 abbrev pub invariant-loop-k : goal.invariant-loop-k

@@ -1,8 +1,7 @@
 -- `inputs::inputs_in` meets its contract: what each switch of the slot reads goes to its input. Assumes nothing.
 use native.Mathlib.Omega.{arith}
-use Prim.Native.Nat.{ℕ, ◌+◌, ◌-◌, ◌≤◌}
+use Prim.Native.Nat.{ℕ, ◌+◌}
 use mathlib.Core.Path.{◌≡◌, refl, sym, ap, ◌∙◌, subst}
-use mathlib.Core.Logic.{⊎_elim}
 use mathlib.Core.Bool.{true, false, ◌&&◌}
 use lib.Dec.{eqb}
 use lib.ListN.{length, set, length-set, get_or-replicate}
@@ -13,7 +12,6 @@ use Rattle.plans.specs.Plan.{plan_read}
 use Rattle.inputs.specs.Inputs.{last_of, Gathered, in_slot, input_place, tapped}
 use Rattle.plans.proofs.WholeLaws.{switch_inside}
 use Rattle.memory.proofs.TakenLaws.{whole_taken, few_units, few_wires}
-use borrow.Author.Rules.{rules}
 use Rattle.inputs.proofs.inputs_in.Goals as goal
 use Rattle.inputs.proofs.inputs_in.Goals.{then-joint-slot, else-joint-slot}
 

@@ -8,7 +8,6 @@ use Rattle.plans.specs.Plan.{plan_read}
 use Rattle.memory.specs.Memory.{size}
 use Rattle.inputs.specs.Inputs.{tapped_place}
 use Rattle.inputs.proofs.InputLaws.{place_read}
-use borrow.Author.Rules.{rules}
 use Rattle.inputs.proofs.place_of.Goals as goal
 use Rattle.inputs.proofs.place_of.Goals.{After-place}
 

@@ -5,7 +5,6 @@ use mathlib.Core.Path.{sym, subst}
 use Rattle.plans.proofs.WholeLaws.{switch_inside}
 use Rattle.memory.proofs.TakenLaws.{whole_taken}
 use Rattle.inputs.proofs.InputLaws.{source_so}
-use borrow.Author.Rules.{rules}
 use Rattle.inputs.proofs.source_of.Goals as goal
 
 pub bounds-plan-switch_place : goal.bounds-plan-switch_place

@@ -1,7 +1,6 @@
 -- `inputs::tapped` meets its contract: what stands at that place is what the switch reads. Assumes nothing.
 use mathlib.Core.Path.{ap}
 use Rattle.records.specs.Records.{at}
-use borrow.Author.Rules.{rules}
 use Rattle.inputs.proofs.tapped.Goals as goal
 
 pub returns : goal.returns

@@ -5,7 +5,6 @@ use Rattle.records.proofs.AnswerLaws.{passed_none}
 use Rattle.plans.specs.Plan.{plan_format}
 use Rattle.judging.specs.Answers.{head_fault, HeaderSaid}
 use Rattle.judging.proofs.PartLaws.{head_refused, head_got, front_refused, rest_refused, all_passed, fronted}
-use borrow.Author.Rules.{rules}
 use Rattle.judging.proofs.judge.Goals as goal
 use Rattle.judging.proofs.judge.Goals.{In-Got, In_default-front}
 

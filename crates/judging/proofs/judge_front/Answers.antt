@@ -2,7 +2,6 @@
 use mathlib.Core.Path.{ap, ◌∙◌}
 use Rattle.records.specs.Answers.{judged}
 use Rattle.judging.proofs.RunLaws.{whole_below, runs_inside, front_said}
-use borrow.Author.Rules.{rules}
 use Rattle.judging.proofs.judge_front.Goals as goal
 
 pub place-requires : goal.place-requires

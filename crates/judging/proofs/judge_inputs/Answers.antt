@@ -14,7 +14,6 @@ use Rattle.judging.specs.Answers.{fed_fault, figures_fault}
 use Rattle.judging.proofs.RunLaws.{unit_room}
 use Rattle.judging.proofs.SwitchLaws.{counts_of}
 use Rattle.judging.proofs.FeedLaws.{fed_twice, fed_missing, fed_all}
-use borrow.Author.Rules.{rules}
 use Rattle.judging.proofs.judge_inputs.Goals as goal
 use Rattle.judging.proofs.judge_inputs.Goals.{After-figures_right}
 

@@ -2,7 +2,6 @@
 use mathlib.Core.Path.{sym, ap, ◌∙◌}
 use Rattle.judging.specs.declared.PlanRead.TheVariants as P
 use Rattle.judging.specs.Answers.{plan_got}
-use borrow.Author.Rules.{rules}
 use Rattle.judging.proofs.plan_got.Goals as goal
 
 pub returns-in-Got : goal.returns-in-Got

@@ -4,7 +4,6 @@ use native.Mathlib.Omega.{arith}
 use Rattle.judging.specs.declared.PlanRead.TheVariants as P
 use Rattle.judging.specs.Answers.{plan_got}
 use Rattle.judging.proofs.HeadLaws.{counts_answer, counts_read, counts_refused, head_long, chain_refused, chain_passed}
-use borrow.Author.Rules.{rules}
 use Rattle.judging.proofs.read_header.Goals as goal
 use Rattle.judging.proofs.read_header.Goals.{After-plan_got-head, In-Got}
 

@@ -9,7 +9,6 @@ use Rattle.slots.proofs.SlotLaws.{slots_same}
 use Rattle.plans.proofs.WholeLaws.{nodes_so}
 use Rattle.judging.proofs.RunLaws.{node_room, node_got}
 use Rattle.judging.proofs.SwitchLaws.{node_masked}
-use borrow.Author.Rules.{rules}
 use Rattle.judging.proofs.slots_of.Goals as goal
 
 pub slots_in-requires : goal.slots_in-requires

@@ -1,7 +1,6 @@
 -- `lifetimes::first_slot` meets its contract: the slot, the depth and one more, by N. Assumes nothing.
 use mathlib.Core.Path.{refl}
 use Rattle.waits.proofs.FineLaws.{fold_some, on_unit_so}
-use borrow.Author.Rules.{rules}
 use Rattle.lifetimes.proofs.first_slot.Goals as goal
 
 pub unit_of-unit-requires : goal.unit_of-unit-requires

@@ -1,12 +1,12 @@
 -- `lifetimes::live_counts` meets its contract: each node adds its whole rounds at once, and its rest cycle by cycle. Assumes nothing.
-use Prim.Native.Nat.{ℕ, ◌+◌, ◌-◌, ◌*◌, ◌/◌, ◌<◌, ◌≤◌}
+use Prim.Native.Nat.{ℕ, ◌+◌, ◌/◌, ◌<◌, ◌≤◌}
 use mathlib.Core.Path.{◌≡◌, refl, sym, ap, ◌∙◌}
 use mathlib.Core.Logic.{inl, inr}
 use mathlib.Core.Bool.{true≢false}
 use native.Mathlib.Nat.{mod-lt}
 use native.Mathlib.Omega.{arith}
 use lib.Dec.{ltb}
-use lib.ListN.{length, length-set, get_or-replicate}
+use lib.ListN.{length-set, get_or-replicate}
 use lib.IntN.{pos}
 use Rattle.words.specs.Loops.{total}
 use Rattle.times.specs.Times.{cycles_at}
@@ -21,7 +21,6 @@ use Rattle.waits.proofs.FineLaws.{fold_so, fold_some, few_nodes}
 use Rattle.lifetimes.specs.Counts.{wait_of, rounds_of, rest_of}
 use Rattle.lifetimes.proofs.LiveSums.{rounds_more, wait_so, rounds_le}
 use Rattle.lifetimes.proofs.Underway.{Underway, in_round, count_fits, all_counted, underway_more, underway_next, underway_none}
-use borrow.Author.Rules.{rules}
 use borrow.Author.Tests.{ltb-true, ltb-false, le-ltb}
 use Rattle.lifetimes.proofs.live_counts.Goals as goal
 use Rattle.lifetimes.proofs.live_counts.Goals.{After-turns-turns, After-wait-1, Else-rest-gt0}

@@ -1,10 +1,9 @@
 -- `lifetimes::most` meets its contract: the largest so far is kept. Assumes nothing.
-use Prim.Native.Nat.{ℕ, ◌-◌, ◌≤◌, max}
+use Prim.Native.Nat.{ℕ, max}
 use mathlib.Core.Path.{◌≡◌, refl, ap, ◌∙◌}
 use native.Mathlib.Numerals.{add-one}
 use native.Mathlib.Omega.{arith}
 use lib.ListN.{get_or}
-use borrow.Author.Rules.{rules}
 use Rattle.words.specs.Loops.{largest}
 use Rattle.lifetimes.proofs.most.Goals as goal
 

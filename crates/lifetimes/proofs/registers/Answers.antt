@@ -6,7 +6,6 @@ use lib.ListN.{get_or}
 use Rattle.words.specs.Loops.{largest}
 use Rattle.waits.proofs.FineLaws.{fold_so, fold_some}
 use Rattle.lifetimes.proofs.LiveSums.{registers_so, registers_narrow}
-use borrow.Author.Rules.{rules}
 use Rattle.lifetimes.proofs.registers.Goals as goal
 
 pub most-requires : goal.most-requires

@@ -1,9 +1,8 @@
 -- `lines::node_line` meets its contract: its fields one after the other are the node's line. Assumes nothing.
 use mathlib.Core.Path.{refl}
-use lib.ListN.{length}
 use borrow.Author.Tests.{leb-true}
 use Rattle.lines.specs.Text.{node_line}
-use Rattle.numerals.proofs.WroteLaws.{Inside, Room, byte_inside, byte_room, field_room, place_fits, room_left, signed_room, two_inside, within, wrote_length, wrote_then}
+use Rattle.numerals.proofs.WroteLaws.{within, wrote_length, wrote_then}
 use Rattle.lines.proofs.node_line.Goals as goal
 
 pub returns : goal.returns

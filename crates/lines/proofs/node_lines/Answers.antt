@@ -1,15 +1,12 @@
 -- `lines::node_lines` meets its contract: each turn writes the line of one node more. Assumes nothing.
 use mathlib.Core.Path.{sym, ap, ◌∙◌}
-use Prim.Native.Nat.{ℕ, ◌-◌, ◌*◌, ◌≤◌}
+use Prim.Native.Nat.{ℕ}
 use native.Mathlib.Omega.{arith}
-use Rattle.plans.specs.Plan.{plan_node_at, plan_read}
+use Rattle.plans.specs.Plan.{plan_node_at}
 use Rattle.plans.proofs.WholeLaws.{node_inside, node_so}
-use Rattle.words.specs.Loops.{joined}
-use Rattle.lines.specs.Text.{node_line, node_lines, line_most}
-use Rattle.numerals.specs.Wrote.{Wrote}
+use Rattle.lines.specs.Text.{node_line, line_most}
 use Rattle.numerals.proofs.WroteLaws.{wrote_length}
 use Rattle.lines.proofs.LineLaws.{lines_none, lines_more, lines_done}
-use borrow.Author.Rules.{rules}
 use Rattle.lines.proofs.node_lines.Goals as goal
 
 pub loop-i-init : goal.loop-i-init

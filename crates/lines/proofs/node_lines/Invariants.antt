@@ -1,15 +1,9 @@
 -- `lines::node_lines` meets its contract: what its loop keeps.
-use mathlib.Core.Path.{sym, ap, ◌∙◌}
-use Prim.Native.Nat.{ℕ, ◌-◌, ◌*◌, ◌≤◌}
-use native.Mathlib.Omega.{arith}
-use Rattle.plans.specs.Plan.{plan_node_at, plan_read}
-use Rattle.plans.proofs.WholeLaws.{node_inside, node_so}
+use Prim.Native.Nat.{◌-◌, ◌*◌, ◌≤◌}
+use Rattle.plans.specs.Plan.{plan_read}
 use Rattle.words.specs.Loops.{joined}
-use Rattle.lines.specs.Text.{node_line, node_lines, line_most}
+use Rattle.lines.specs.Text.{node_lines, line_most}
 use Rattle.numerals.specs.Wrote.{Wrote}
-use Rattle.numerals.proofs.WroteLaws.{wrote_length}
-use Rattle.lines.proofs.LineLaws.{lines_none, lines_more, lines_done}
-use borrow.Author.Rules.{rules}
 use Rattle.lines.proofs.node_lines.Given as goal
 
 abbrev pub invariant-loop-i : goal.invariant-loop-i

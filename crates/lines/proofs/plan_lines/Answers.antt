@@ -2,7 +2,6 @@
 use native.Mathlib.Omega.{arith}
 use Rattle.numerals.proofs.WroteLaws.{wrote_then, within}
 use Rattle.lines.proofs.LineLaws.{text_so}
-use borrow.Author.Rules.{rules}
 use Rattle.lines.proofs.plan_lines.Goals as goal
 
 pub returns : goal.returns

@@ -1,15 +1,9 @@
 -- `lines::switch_lines` meets its contract: what its loop keeps.
-use mathlib.Core.Path.{sym, ap, ◌∙◌}
-use Prim.Native.Nat.{ℕ, ◌-◌, ◌*◌, ◌≤◌}
-use native.Mathlib.Omega.{arith}
-use Rattle.plans.specs.Plan.{switch_at, plan_read}
-use Rattle.plans.proofs.WholeLaws.{switch_inside, switch_so}
+use Prim.Native.Nat.{◌-◌, ◌*◌, ◌≤◌}
+use Rattle.plans.specs.Plan.{plan_read}
 use Rattle.words.specs.Loops.{joined}
-use Rattle.lines.specs.Text.{switch_line, switch_lines, line_most}
+use Rattle.lines.specs.Text.{switch_lines, line_most}
 use Rattle.numerals.specs.Wrote.{Wrote}
-use Rattle.numerals.proofs.WroteLaws.{wrote_length}
-use Rattle.lines.proofs.LineLaws.{lines_none, lines_more, lines_done}
-use borrow.Author.Rules.{rules}
 use Rattle.lines.proofs.switch_lines.Given as goal
 
 abbrev pub invariant-loop-i : goal.invariant-loop-i

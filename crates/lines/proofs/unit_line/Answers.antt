@@ -1,9 +1,8 @@
 -- `lines::unit_line` meets its contract: its fields one after the other are the unit's line. Assumes nothing.
 use mathlib.Core.Path.{refl}
-use lib.ListN.{length}
 use borrow.Author.Tests.{leb-true}
 use Rattle.lines.specs.Text.{unit_line}
-use Rattle.numerals.proofs.WroteLaws.{Inside, Room, byte_inside, byte_room, field_room, place_fits, room_left, two_inside, within, wrote_length, wrote_then}
+use Rattle.numerals.proofs.WroteLaws.{within, wrote_length, wrote_then}
 use Rattle.lines.proofs.unit_line.Goals as goal
 
 pub returns : goal.returns

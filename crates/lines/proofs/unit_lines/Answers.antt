@@ -1,15 +1,12 @@
 -- `lines::unit_lines` meets its contract: each turn writes the line of one unit more. Assumes nothing.
 use mathlib.Core.Path.{sym, ap, ◌∙◌}
-use Prim.Native.Nat.{ℕ, ◌-◌, ◌*◌, ◌≤◌}
+use Prim.Native.Nat.{ℕ}
 use native.Mathlib.Omega.{arith}
-use Rattle.plans.specs.Plan.{plan_unit_at, plan_read}
+use Rattle.plans.specs.Plan.{plan_unit_at}
 use Rattle.plans.proofs.WholeLaws.{unit_inside, unit_so}
-use Rattle.words.specs.Loops.{joined}
-use Rattle.lines.specs.Text.{unit_line, unit_lines, line_most}
-use Rattle.numerals.specs.Wrote.{Wrote}
+use Rattle.lines.specs.Text.{unit_line, line_most}
 use Rattle.numerals.proofs.WroteLaws.{wrote_length}
 use Rattle.lines.proofs.LineLaws.{lines_none, lines_more, lines_done}
-use borrow.Author.Rules.{rules}
 use Rattle.lines.proofs.unit_lines.Goals as goal
 
 pub loop-i-init : goal.loop-i-init

@@ -1,5 +1,4 @@
 -- `listings::answer_text` meets its contract: each answer has its text. Assumes nothing.
-use borrow.Author.Rules.{rules}
 use Rattle.listings.proofs.answer_text.Goals as goal
 
 pub returns-in-Done : goal.returns-in-Done

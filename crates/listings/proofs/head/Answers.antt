@@ -2,7 +2,6 @@
 use mathlib.Core.Path.{sym}
 use native.Mathlib.Omega.{arith}
 use lib.Seq.{length-take-le, take_all}
-use borrow.Author.Rules.{rules}
 use Rattle.listings.proofs.head.Goals as goal
 
 pub slice_bounds-result-end : goal.slice_bounds-result-end

@@ -1,5 +1,4 @@
 -- `listings::listing` meets its contract: no text of what the planner leaves is refused. Assumes nothing.
-use borrow.Author.Rules.{rules}
 use Rattle.planner.specs.Calls.{planned_number, planned_length}
 use Rattle.listings.proofs.SaidLaws.{said_fine, said_so}
 use Rattle.listings.proofs.listing.Goals as goal

@@ -1,11 +1,6 @@
 -- `loops::closes` meets its contract: no wire passed meets a node again. Assumes nothing.
-use Prim.Native.Nat.{ℕ, ◌-◌, ◌<◌, ◌≤◌}
 use native.Mathlib.Omega.{arith}
-use borrow.Author.Rules.{rules}
 use borrow.Author.Count.{below_more}
-use lib.ListN.{length}
-use Rattle.falls.specs.Choices.{from_at, to_at}
-use Rattle.loops.specs.Shown.{New}
 use Rattle.loops.proofs.closes.Goals as goal
 
 pub loop-q-init : goal.loop-q-init

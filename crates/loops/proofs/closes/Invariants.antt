@@ -1,8 +1,5 @@
 -- `loops::closes` meets its contract: what its loop keeps.
 use Prim.Native.Nat.{ℕ, ◌-◌, ◌<◌, ◌≤◌}
-use native.Mathlib.Omega.{arith}
-use borrow.Author.Rules.{rules}
-use borrow.Author.Count.{below_more}
 use lib.ListN.{length}
 use Rattle.falls.specs.Choices.{from_at, to_at}
 use Rattle.loops.specs.Shown.{New}

@@ -1,5 +1,4 @@
 -- `loops::end_of` meets its contract: the byte read is the wire's number. Assumes nothing.
-use borrow.Author.Rules.{rules}
 use Rattle.loops.proofs.end_of.Goals as goal
 
 pub returns : goal.returns

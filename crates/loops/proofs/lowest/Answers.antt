@@ -1,10 +1,8 @@
 -- `loops::lowest` meets its contract: no wire passed is lower. Assumes nothing.
-use Prim.Native.Nat.{ℕ, ◌-◌, ◌<◌, ◌≤◌}
 use native.Mathlib.Nat.{le_trans}
 use native.Mathlib.Omega.{arith}
 use borrow.Author.Rules.{rules}
 use borrow.Author.Count.{below_more}
-use lib.ListN.{length, get_or}
 use Rattle.loops.proofs.lowest.Goals as goal
 
 pub loop-i-init : goal.loop-i-init

@@ -1,9 +1,5 @@
 -- `loops::lowest` meets its contract: what its loop keeps.
 use Prim.Native.Nat.{ℕ, ◌-◌, ◌<◌, ◌≤◌}
-use native.Mathlib.Nat.{le_trans}
-use native.Mathlib.Omega.{arith}
-use borrow.Author.Rules.{rules}
-use borrow.Author.Count.{below_more}
 use lib.ListN.{length, get_or}
 use Rattle.loops.proofs.lowest.Given as goal
 

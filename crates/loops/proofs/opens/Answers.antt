@@ -1,11 +1,8 @@
 -- `loops::opens` meets its contract: no wire passed leaves the node. Assumes nothing.
-use mathlib.Core.Path.{◌≡◌}
-use Prim.Native.Nat.{ℕ, ◌+◌, ◌-◌, ◌<◌, ◌≤◌}
+use Prim.Native.Nat.{◌<◌}
 use native.Mathlib.Omega.{arith}
-use borrow.Author.Rules.{rules}
 use borrow.Author.Count.{below_more}
-use lib.ListN.{length, get_or}
-use Rattle.falls.specs.Choices.{from_at, to_at}
+use lib.ListN.{length}
 use Rattle.loops.proofs.opens.Goals as goal
 
 pub end_of-node-requires : goal.end_of-node-requires

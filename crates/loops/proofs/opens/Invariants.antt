@@ -1,10 +1,7 @@
 -- `loops::opens` meets its contract: what its loop keeps.
 use mathlib.Core.Path.{◌≡◌}
 use Prim.Native.Nat.{ℕ, ◌+◌, ◌-◌, ◌<◌, ◌≤◌}
-use native.Mathlib.Omega.{arith}
-use borrow.Author.Rules.{rules}
-use borrow.Author.Count.{below_more}
-use lib.ListN.{length, get_or}
+use lib.ListN.{get_or}
 use Rattle.falls.specs.Choices.{from_at, to_at}
 use Rattle.loops.proofs.opens.Given as goal
 

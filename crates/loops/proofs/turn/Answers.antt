@@ -1,11 +1,8 @@
 -- `loops::turn` meets its contract: the first q wires are those of the turned ring. Assumes nothing.
-use mathlib.Core.Path.{◌≡◌, refl}
-use Prim.Native.Nat.{◌-◌, ◌≤◌}
+use mathlib.Core.Path.{refl}
 use native.Mathlib.Nat.{mod-lt}
 use native.Mathlib.Omega.{arith}
-use borrow.Author.Rules.{rules}
-use mathlib.Core.List.{◌++◌}
-use lib.ListN.{length, take, drop, length-set}
+use lib.ListN.{length-set}
 use Rattle.loops.proofs.TurnLaws.{turned_more, turned_all}
 use Rattle.loops.proofs.turn.Goals as goal
 

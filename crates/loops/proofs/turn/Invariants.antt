@@ -1,12 +1,8 @@
 -- `loops::turn` meets its contract: what its loop keeps.
-use mathlib.Core.Path.{◌≡◌, refl}
+use mathlib.Core.Path.{◌≡◌}
 use Prim.Native.Nat.{◌-◌, ◌≤◌}
-use native.Mathlib.Nat.{mod-lt}
-use native.Mathlib.Omega.{arith}
-use borrow.Author.Rules.{rules}
 use mathlib.Core.List.{◌++◌}
-use lib.ListN.{length, take, drop, length-set}
-use Rattle.loops.proofs.TurnLaws.{turned_more, turned_all}
+use lib.ListN.{length, take, drop}
 use Rattle.loops.proofs.turn.Given as goal
 
 abbrev pub invariant-loop-q : goal.invariant-loop-q

@@ -1,7 +1,6 @@
 -- `machine::clear` meets its contract: a plan with a fault is refused, and nothing changes. Assumes nothing.
 use mathlib.Core.Path.{sym, ◌∙◌}
 use Rattle.machine.proofs.CallLaws.{got_taken, clear_refused}
-use borrow.Author.Rules.{rules}
 use Rattle.machine.proofs.clear.Goals as goal
 
 pub clear_judged-requires : goal.clear_judged-requires

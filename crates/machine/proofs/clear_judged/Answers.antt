@@ -2,7 +2,6 @@
 use native.Mathlib.Omega.{arith}
 use Rattle.memory.specs.Memory.{size}
 use Rattle.machine.proofs.CallLaws.{clear_short, clear_done}
-use borrow.Author.Rules.{rules}
 use Rattle.machine.proofs.clear_judged.Goals as goal
 
 pub returns-then-memory-size : goal.returns-then-memory-size

@@ -1,7 +1,6 @@
 -- `machine::memory_words` meets its contract: the lines end where the memory does. Assumes nothing.
 use mathlib.Core.Path.{sym, ◌∙◌}
 use Rattle.machine.proofs.CallLaws.{got_taken, needed_refused, needed_said}
-use borrow.Author.Rules.{rules}
 use Rattle.machine.proofs.memory_words.Goals as goal
 
 pub lines_of-lines-requires : goal.lines_of-lines-requires

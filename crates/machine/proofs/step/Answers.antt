@@ -1,7 +1,6 @@
 -- `machine::step` meets its contract: a plan with a fault is refused, and nothing changes. Assumes nothing.
 use mathlib.Core.Path.{sym, ◌∙◌}
 use Rattle.machine.proofs.CallLaws.{got_taken, step_refused}
-use borrow.Author.Rules.{rules}
 use Rattle.machine.proofs.step.Goals as goal
 
 pub step_judged-requires : goal.step_judged-requires

@@ -5,7 +5,6 @@ use mathlib.Core.Path.{sym, subst}
 use Rattle.plans.proofs.WholeLaws.{unit_inside}
 use Rattle.memory.proofs.TakenLaws.{whole_taken}
 use Rattle.memory.proofs.LineLaws.{depth_so}
-use borrow.Author.Rules.{rules}
 use Rattle.memory.proofs.depth_of.Goals as goal
 
 pub bounds-plan-unit_place : goal.bounds-plan-unit_place

@@ -1,9 +1,8 @@
 -- `memory::lines_of` meets its contract: unit q begins where the units before it end. Assumes nothing.
-use Prim.Native.Nat.{ℕ, suc, ◌+◌, ◌*◌, ◌-◌, ◌<◌, ◌≤◌}
+use Prim.Native.Nat.{ℕ, suc}
 use mathlib.Core.Path.{◌≡◌, refl, ap, ◌∙◌}
 use native.Mathlib.Omega.{arith}
-use lib.ListN.{length, get_or, length-set}
-use borrow.Author.Rules.{rules}
+use lib.ListN.{length, length-set}
 use Rattle.plans.specs.Plan.{plan_read}
 use Rattle.memory.specs.Memory.{base, size}
 use Rattle.plans.proofs.WholeLaws.{unit_inside, units_so}

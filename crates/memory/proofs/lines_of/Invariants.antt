@@ -1,14 +1,9 @@
 -- `memory::lines_of` meets its contract: what its loop keeps.
 use Prim.Native.Nat.{ℕ, suc, ◌+◌, ◌*◌, ◌-◌, ◌<◌, ◌≤◌}
-use mathlib.Core.Path.{◌≡◌, refl, ap, ◌∙◌}
-use native.Mathlib.Omega.{arith}
-use lib.ListN.{length, get_or, length-set}
-use borrow.Author.Rules.{rules}
+use mathlib.Core.Path.{◌≡◌}
+use lib.ListN.{length, get_or}
 use Rattle.plans.specs.Plan.{plan_read}
-use Rattle.memory.specs.Memory.{base, size}
-use Rattle.plans.proofs.WholeLaws.{unit_inside, units_so}
-use Rattle.memory.proofs.TakenLaws.{whole_taken, few_units}
-use Rattle.memory.proofs.LineLaws.{lines_more}
+use Rattle.memory.specs.Memory.{base}
 use Rattle.memory.proofs.lines_of.Given as goal
 
 abbrev pub invariant-loop-q : goal.invariant-loop-q

@@ -5,7 +5,6 @@ use native.Mathlib.Omega.{arith}
 use lib.IntN.{ℤ, nat_abs}
 use Rattle.words.proofs.Ints.{from_pos}
 use Rattle.records.specs.Records.{at, two}
-use borrow.Author.Rules.{rules}
 use Rattle.memory.proofs.places_at.Goals as goal
 
 pub places-requires : goal.places-requires

@@ -1,16 +1,15 @@
 -- `moving::advance` meets its contract: the first q units have moved. Assumes nothing.
-use Prim.Native.Nat.{ℕ, ◌-◌, ◌≤◌}
+use Prim.Native.Nat.{ℕ}
 use mathlib.Core.Path.{◌≡◌, refl, sym, ap, ◌∙◌}
 use mathlib.Core.List.{List}
 use native.Mathlib.Omega.{arith}
-use lib.ListN.{length, get_or, length-set}
-use borrow.Author.Rules.{rules}
+use lib.ListN.{get_or, length-set}
 use Rattle.records.specs.Records.{at}
 use Rattle.plans.specs.Plan.{plan_read}
 use Rattle.memory.specs.Memory.{places, size}
 use Rattle.plans.proofs.WholeLaws.{unit_inside, units_so}
 use Rattle.memory.proofs.TakenLaws.{whole_taken, few_units, places_so}
-use Rattle.moving.proofs.MovingLaws.{moved_to, moved_none, moved_more, moved_all, line_inside}
+use Rattle.moving.proofs.MovingLaws.{moved_none, moved_more, moved_all, line_inside}
 use Rattle.moving.proofs.advance.Goals as goal
 use Rattle.moving.proofs.advance.Goals.{After-places_at-n}
 

@@ -1,11 +1,8 @@
 -- `moving::leave` meets its contract: place P − 1 of each unit goes to the head of the output. Assumes nothing.
-use Prim.Native.Nat.{ℕ, ◌-◌, ◌≤◌}
-use mathlib.Core.Path.{◌≡◌, refl, ap}
-use mathlib.Core.List.{◌++◌}
+use Prim.Native.Nat.{ℕ}
+use mathlib.Core.Path.{refl, ap}
 use native.Mathlib.Omega.{arith}
-use lib.ListN.{length, drop, length-set}
-use borrow.Author.Rules.{rules}
-use Rattle.words.specs.Loops.{tab}
+use lib.ListN.{length-set}
 use Rattle.records.specs.Records.{at}
 use Rattle.plans.specs.Plan.{plan_read}
 use Rattle.memory.specs.Memory.{reading}

@@ -1,17 +1,11 @@
 -- `moving::leave` meets its contract: what its loop keeps.
-use Prim.Native.Nat.{ℕ, ◌-◌, ◌≤◌}
-use mathlib.Core.Path.{◌≡◌, refl, ap}
+use Prim.Native.Nat.{◌-◌, ◌≤◌}
+use mathlib.Core.Path.{◌≡◌}
 use mathlib.Core.List.{◌++◌}
-use native.Mathlib.Omega.{arith}
-use lib.ListN.{length, drop, length-set}
-use borrow.Author.Rules.{rules}
+use lib.ListN.{length, drop}
 use Rattle.words.specs.Loops.{tab}
-use Rattle.records.specs.Records.{at}
 use Rattle.plans.specs.Plan.{plan_read}
 use Rattle.memory.specs.Memory.{reading}
-use Rattle.plans.proofs.WholeLaws.{units_so}
-use Rattle.memory.proofs.TakenLaws.{whole_taken, few_units}
-use Rattle.moving.proofs.MovingLaws.{head_none, head_more, head_leaving, last_place}
 use Rattle.moving.proofs.leave.Given as goal
 
 abbrev pub invariant-loop-q : goal.invariant-loop-q

@@ -1,10 +1,7 @@
 -- `moving::push` meets its contract: the places above i have moved by one, and the new word goes first. Assumes nothing.
-use Prim.Native.Nat.{◌-◌, ◌≤◌}
 use mathlib.Core.Path.{◌≡◌, subst}
 use native.Mathlib.Omega.{arith}
-use lib.ListN.{length}
 use Rattle.moving.proofs.ShiftLaws.{Shifting, shifting_none, shifting_more, shifting_done}
-use borrow.Author.Rules.{rules}
 use Rattle.moving.proofs.push.Goals as goal
 
 pub loop-i-init : goal.loop-i-init

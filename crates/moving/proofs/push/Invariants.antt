@@ -1,10 +1,7 @@
 -- `moving::push` meets its contract: what its loop keeps.
 use Prim.Native.Nat.{◌-◌, ◌≤◌}
-use mathlib.Core.Path.{◌≡◌, subst}
-use native.Mathlib.Omega.{arith}
 use lib.ListN.{length}
-use Rattle.moving.proofs.ShiftLaws.{Shifting, shifting_none, shifting_more, shifting_done}
-use borrow.Author.Rules.{rules}
+use Rattle.moving.proofs.ShiftLaws.{Shifting}
 use Rattle.moving.proofs.push.Given as goal
 
 abbrev pub invariant-loop-i : goal.invariant-loop-i

@@ -1,5 +1,4 @@
 -- `moving::shift` meets its contract: the part is put back where it was lent. Assumes nothing.
-use borrow.Author.Rules.{rules}
 use Rattle.moving.proofs.ShiftLaws.{shifted_part}
 use Rattle.moving.proofs.shift.Goals as goal
 

@@ -1,11 +1,10 @@
 -- `moving::wipe` meets its contract: the first i words hold the word before, and t is 0 last. Assumes nothing.
-use Prim.Native.Nat.{ℕ, ◌-◌, ◌≤◌}
+use Prim.Native.Nat.{ℕ}
 use mathlib.Core.Path.{◌≡◌, refl, ap, ◌∙◌}
 use mathlib.Core.List.{List, ◌++◌}
 use native.Mathlib.Omega.{arith}
-use lib.ListN.{length, set, drop, replicate, length-set}
+use lib.ListN.{set, drop, replicate, length-set}
 use borrow.Author.Fill.{fill_none, fill_more}
-use borrow.Author.Rules.{rules}
 use Rattle.records.specs.Units.{word_before}
 use Rattle.moving.proofs.MovingLaws.{wiped_so}
 use Rattle.moving.proofs.wipe.Goals as goal

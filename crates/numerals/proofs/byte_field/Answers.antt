@@ -1,6 +1,5 @@
 -- `numerals::byte_field` meets its contract: a byte fits the number. Assumes nothing.
 use native.Mathlib.Omega.{arith}
-use borrow.Author.Rules.{rules}
 use Rattle.numerals.proofs.byte_field.Goals as goal
 
 pub overflow_cast-b : goal.overflow_cast-b

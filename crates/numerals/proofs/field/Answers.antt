@@ -1,7 +1,6 @@
 -- `numerals::field` meets its contract: the name and then the number. Assumes nothing.
 use Rattle.numerals.specs.Numerals.{named}
 use Rattle.numerals.proofs.WroteLaws.{wrote_then}
-use borrow.Author.Rules.{rules}
 use Rattle.numerals.proofs.field.Goals as goal
 
 pub returns : goal.returns

@@ -1,11 +1,9 @@
 -- `numerals::put` meets its contract: a byte beyond the end changes nothing. Assumes nothing.
 use mathlib.Core.Path.{◌≡◌, sym, ap, ◌∙◌}
-use mathlib.Core.Logic.{inl, inr}
 use native.Mathlib.Omega.{arith}
 use lib.ListN.{length, set, length-set}
 use lib.Seq.{set_out}
 use Rattle.writing.specs.Laid.{laid}
-use borrow.Author.Rules.{rules}
 use Rattle.numerals.proofs.put.Goals as goal
 use Rattle.numerals.proofs.put.Goals.{Joined-to-out, then-to-out, else-to-out}
 

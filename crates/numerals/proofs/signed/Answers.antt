@@ -1,6 +1,5 @@
 -- `numerals::signed` meets its contract: from 2^15 on a sign and what is missing to 2^16. Assumes nothing.
 use Rattle.numerals.proofs.NumberLaws.{signed_up, signed_down}
-use borrow.Author.Rules.{rules}
 use Rattle.numerals.proofs.signed.Goals as goal
 
 pub returns-then-n-lt32768 : goal.returns-then-n-lt32768

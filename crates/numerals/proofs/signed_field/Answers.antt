@@ -1,7 +1,6 @@
 -- `numerals::signed_field` meets its contract: the name and then the number with its sign. Assumes nothing.
 use Rattle.numerals.specs.Numerals.{signed_named}
 use Rattle.numerals.proofs.WroteLaws.{wrote_then}
-use borrow.Author.Rules.{rules}
 use Rattle.numerals.proofs.signed_field.Goals as goal
 
 pub returns : goal.returns

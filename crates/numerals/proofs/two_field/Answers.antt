@@ -1,5 +1,4 @@
 -- `numerals::two_field` meets its contract: the number is the two bytes'. Assumes nothing.
-use borrow.Author.Rules.{rules}
 use Rattle.numerals.proofs.two_field.Goals as goal
 
 pub returns : goal.returns

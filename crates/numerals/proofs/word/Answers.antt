@@ -1,8 +1,5 @@
 -- `numerals::word` meets its contract: the bytes passed are laid. Assumes nothing.
-use Prim.Native.Nat.{◌-◌, ◌≤◌}
 use native.Mathlib.Omega.{arith}
-use lib.ListN.{length, take}
-use Rattle.numerals.specs.Wrote.{Wrote}
 use Rattle.numerals.proofs.WroteLaws.{wrote_nothing, wrote_more, wrote_whole, wrote_length}
 use Rattle.numerals.proofs.word.Goals as goal
 

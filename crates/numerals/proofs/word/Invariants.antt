@@ -1,9 +1,7 @@
 -- `numerals::word` meets its contract: what its loop keeps.
 use Prim.Native.Nat.{◌-◌, ◌≤◌}
-use native.Mathlib.Omega.{arith}
 use lib.ListN.{length, take}
 use Rattle.numerals.specs.Wrote.{Wrote}
-use Rattle.numerals.proofs.WroteLaws.{wrote_nothing, wrote_more, wrote_whole, wrote_length}
 use Rattle.numerals.proofs.word.Given as goal
 
 abbrev pub invariant-loop-i : goal.invariant-loop-i

@@ -1,10 +1,7 @@
 -- `planner::plan` meets its contract: a sheet with a fault is refused, and nothing changes. Assumes nothing.
 use mathlib.Core.Path.{sym, ◌∙◌}
-use borrow.Author.Rules.{rules}
 use Rattle.records.proofs.AnswerLaws.{reason_positive}
 use Rattle.planner.proofs.AnswerLaws.{got_fine, why_fault, planning_refused}
-use Rattle.times.proofs.Cycles.zero.Reads as time-Cycles-zero-reads
-use Rattle.times.proofs.Iterations.zero.Reads as time-Iterations-zero-reads
 use Rattle.planner.proofs.plan.Goals as goal
 
 pub plan_judged-requires : goal.plan_judged-requires

@@ -1,7 +1,6 @@
 -- `planner::plan_judged` meets its contract: a short buffer, then a loop, then the plan. Assumes nothing.
 use mathlib.Core.Path.{◌≡◌, sym, ◌∙◌}
 use native.Mathlib.Omega.{arith}
-use borrow.Author.Rules.{rules}
 use borrow.Author.Tests.{not-true, not-false}
 use Rattle.drawing.specs.PlanOf.{plan_length}
 use Rattle.drawing.proofs.WholePlan.{room_so}

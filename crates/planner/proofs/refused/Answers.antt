@@ -1,6 +1,5 @@
 -- `planner::refused` meets its contract: each reason has its case. Assumes nothing.
 use native.Mathlib.Omega.{arith}
-use borrow.Author.Rules.{rules}
 use Rattle.planner.proofs.refused.Goals as goal
 
 pub returns-in-Figures : goal.returns-in-Figures

@@ -1,6 +1,5 @@
 -- `planner::retime_sheet` meets its contract: the net of the bytes is the sheet's. Assumes nothing.
 use mathlib.Core.Path.{ap}
-use borrow.Author.Rules.{rules}
 use Rattle.records.specs.declared.reading.Run.{Run}
 use Rattle.planner.proofs.NetLaws.{here_wired, here_moderate, timed_sheet}
 use Rattle.planner.proofs.retime_sheet.Goals as goal

@@ -1,11 +1,9 @@
 -- `planner::write_loop` meets its contract: each turn lays one wire behind the last. Assumes nothing.
-use Prim.Native.Nat.{ℕ, ◌+◌, ◌-◌, ◌*◌, ◌≤◌}
+use Prim.Native.Nat.{ℕ, ◌+◌, ◌*◌}
 use mathlib.Core.Path.{◌≡◌, refl, ap, ◌∙◌}
 use native.Mathlib.Omega.{arith}
-use borrow.Author.Rules.{rules}
 use lib.ListN.{length, get_or}
-use Rattle.words.specs.Loops.{tab}
-use Rattle.plans.specs.Plan.{concat, loop_wire_bytes}
+use Rattle.plans.specs.Plan.{loop_wire_bytes}
 use Rattle.writing.specs.Laid.{laid}
 use Rattle.writing.proofs.LaidLaws.{length_laid}
 use Rattle.writing.proofs.RecordLaws.{laid_none, laid_more, loop_laid}

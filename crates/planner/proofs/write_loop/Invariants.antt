@@ -1,14 +1,10 @@
 -- `planner::write_loop` meets its contract: what its loop keeps.
-use Prim.Native.Nat.{ℕ, ◌+◌, ◌-◌, ◌*◌, ◌≤◌}
-use mathlib.Core.Path.{◌≡◌, refl, ap, ◌∙◌}
-use native.Mathlib.Omega.{arith}
-use borrow.Author.Rules.{rules}
+use Prim.Native.Nat.{◌-◌, ◌≤◌}
+use mathlib.Core.Path.{◌≡◌}
 use lib.ListN.{length, get_or}
 use Rattle.words.specs.Loops.{tab}
 use Rattle.plans.specs.Plan.{concat, loop_wire_bytes}
 use Rattle.writing.specs.Laid.{laid}
-use Rattle.writing.proofs.LaidLaws.{length_laid}
-use Rattle.writing.proofs.RecordLaws.{laid_none, laid_more, loop_laid}
 use Rattle.planner.proofs.write_loop.Given as goal
 
 abbrev pub invariant-loop-i : goal.invariant-loop-i

@@ -1,6 +1,5 @@
 -- `plans::tap_at` meets its contract: the two bytes are the field. Assumes nothing.
 use mathlib.Core.Path.{refl, ◌∙◌}
-use borrow.Author.Rules.{rules}
 use Rattle.plans.proofs.ReadLaws.{two_at}
 use Rattle.plans.proofs.tap_at.Goals as goal
 

@@ -2,7 +2,6 @@
 use mathlib.Core.Path.{sym, ap, ◌∙◌}
 use native.Mathlib.Omega.{arith}
 use lib.IntN.{pos}
-use borrow.Author.Rules.{rules}
 use Rattle.plans.specs.Plan.{Switch}
 use Rattle.plans.proofs.WholeLaws.{switch_inside, switch_so}
 use Rattle.plans.proofs.tap_of.Goals as goal

@@ -1,5 +1,4 @@
 -- `rounds::no_totals` meets its contract: each element is the zero that was made. Assumes nothing.
-use borrow.Author.Rules.{rules}
 use mathlib.Core.Path.{refl}
 use lib.IntN.{pos}
 use Rattle.times.specs.declared.Iterations.{Iterations}

@@ -1,22 +1,19 @@
 -- `rounds::settle` meets its contract: in round k + 1, after e wires, the totals are those of a round over these wires from those of round k,
 -- and no round before it is settled. Assumes nothing.
 use mathlib.Core.Path.{◌≡◌, refl, sym, ◌∙◌, subst}
-use mathlib.Core.Logic.{⊎_elim}
-use mathlib.Core.Bool.{false}
-use Prim.Native.Nat.{ℕ, ◌+◌, ◌-◌, ◌*◌, ◌<◌, ◌≤◌}
+use Prim.Native.Nat.{◌-◌, ◌<◌}
 use native.Mathlib.Omega.{arith}
 use native.Mathlib.Numerals.{add-one}
 use borrow.Author.Rules.{rules}
-use borrow.Author.Tests.{not-true, not-false, lt-ltb, le-ltb}
+use borrow.Author.Tests.{not-false, lt-ltb, le-ltb}
 use borrow.Author.Count.{below_more}
 use lib.ListN.{length, length-set}
 use Rattle.times.specs.Times.{iterations_at}
 use Rattle.records.specs.Records.{most_nodes}
-use Rattle.folding.specs.Walks.{better, settled}
-use Rattle.folding.specs.Round.{round}
+use Rattle.folding.specs.Walks.{better}
 use Rattle.folding.proofs.RoundLaws.{round_zero}
 use Rattle.rounds.specs.Rounds.{bytes_net}
-use Rattle.rounds.proofs.StepLaws.{Reached, reached_less, reached_past, Fell, fell_more}
+use Rattle.rounds.proofs.StepLaws.{reached_less, reached_past, Fell, fell_more}
 use Rattle.rounds.proofs.RowLaws.{sum_fits, rounded_more, stays_settled, falls_unsettled, settled_answer, unsettled_answer}
 use Rattle.rounds.proofs.settle.Goals as goal
 use Rattle.rounds.proofs.settle.Goals.{else-loop-k-test, then-loop-k-test+else-e-wires+then-not-changed}

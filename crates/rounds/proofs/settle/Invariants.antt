@@ -1,22 +1,14 @@
 -- `rounds::settle` meets its contract: what its loop keeps.
-use mathlib.Core.Path.{◌≡◌, refl, sym, ◌∙◌, subst}
-use mathlib.Core.Logic.{⊎_elim}
+use mathlib.Core.Path.{◌≡◌}
 use mathlib.Core.Bool.{false}
 use Prim.Native.Nat.{ℕ, ◌+◌, ◌-◌, ◌*◌, ◌<◌, ◌≤◌}
-use native.Mathlib.Omega.{arith}
-use native.Mathlib.Numerals.{add-one}
-use borrow.Author.Rules.{rules}
-use borrow.Author.Tests.{not-true, not-false, lt-ltb, le-ltb}
-use borrow.Author.Count.{below_more}
-use lib.ListN.{length, length-set}
+use lib.ListN.{length}
 use Rattle.times.specs.Times.{iterations_at}
 use Rattle.records.specs.Records.{most_nodes}
-use Rattle.folding.specs.Walks.{better, settled}
+use Rattle.folding.specs.Walks.{settled}
 use Rattle.folding.specs.Round.{round}
-use Rattle.folding.proofs.RoundLaws.{round_zero}
 use Rattle.rounds.specs.Rounds.{bytes_net}
-use Rattle.rounds.proofs.StepLaws.{Reached, reached_less, reached_past, Fell, fell_more}
-use Rattle.rounds.proofs.RowLaws.{sum_fits, rounded_more, stays_settled, falls_unsettled, settled_answer, unsettled_answer}
+use Rattle.rounds.proofs.StepLaws.{Reached, Fell}
 use Rattle.rounds.proofs.settle.Given as goal
 
 abbrev pub invariant-loop-k : goal.invariant-loop-k

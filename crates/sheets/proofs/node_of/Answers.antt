@@ -1,7 +1,6 @@
 -- `sheets::node_of` meets its contract: the header says where the record stands. Assumes nothing.
 use mathlib.Core.Path.{◌∙◌}
 use Rattle.sheets.proofs.HeldLaws.{node_ends, node_got}
-use borrow.Author.Rules.{rules}
 use Rattle.sheets.proofs.node_of.Goals as goal
 
 pub node_in-requires : goal.node_in-requires

@@ -1,7 +1,6 @@
 -- `sheets::unit_of` meets its contract: the header says where the record stands. Assumes nothing.
 use mathlib.Core.Path.{◌∙◌}
 use Rattle.sheets.proofs.HeldLaws.{unit_ends, unit_got}
-use borrow.Author.Rules.{rules}
 use Rattle.sheets.proofs.unit_of.Goals as goal
 
 pub unit_in-requires : goal.unit_in-requires

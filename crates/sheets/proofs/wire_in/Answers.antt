@@ -1,6 +1,5 @@
 -- `sheets::wire_in` meets its contract: its four bytes behind the mark. Assumes nothing.
 use mathlib.Core.Path.{◌∙◌}
-use borrow.Author.Rules.{rules}
 use Rattle.sheets.proofs.wire_in.Goals as goal
 
 pub returns : goal.returns

@@ -1,7 +1,6 @@
 -- `sheets::wire_of` meets its contract: the header says where the record stands. Assumes nothing.
 use mathlib.Core.Path.{◌∙◌}
 use Rattle.sheets.proofs.HeldLaws.{wire_ends, wire_got}
-use borrow.Author.Rules.{rules}
 use Rattle.sheets.proofs.wire_of.Goals as goal
 
 pub wire_in-requires : goal.wire_in-requires

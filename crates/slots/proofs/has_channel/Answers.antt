@@ -3,7 +3,6 @@ use mathlib.Core.Path.{ap, ◌∙◌}
 use mathlib.Core.Bool.{Bool, ◌&&◌}
 use native.Mathlib.Omega.{arith}
 use lib.Dec.{eqb}
-use borrow.Author.Rules.{rules}
 use Rattle.words.specs.Masks.{in_mask}
 use Rattle.records.proofs.NodeLaws.{channel_below}
 use Rattle.slots.proofs.has_channel.Goals as goal

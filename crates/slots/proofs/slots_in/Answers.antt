@@ -1,12 +1,10 @@
 -- `slots::slots_in` meets its contract: the masks hold the nodes passed. Assumes nothing.
 use mathlib.Core.Path.{◌≡◌, refl, subst⁻¹}
-use Prim.Native.Nat.{◌≤◌, ◌-◌}
 use native.Mathlib.Omega.{arith}
-use borrow.Author.Rules.{rules}
-use Rattle.records.specs.Answers.{node_part, nodes_in_run}
+use Rattle.records.specs.Answers.{node_part}
 use Rattle.slots.specs.Slots.{Masked}
 use Rattle.records.proofs.AnswerLaws.{in_run}
-use Rattle.slots.proofs.SlotLaws.{Taken, taken_none, taken_next, taken_slots}
+use Rattle.slots.proofs.SlotLaws.{taken_none, taken_next, taken_slots}
 use Rattle.slots.proofs.TableLaws.{empty_at}
 use Rattle.slots.proofs.slots_in.Goals as goal
 use Rattle.slots.proofs.slots_in.Goals.{After-node_in-n}

@@ -1,7 +1,6 @@
 -- `slots::with_channel` meets its contract: the channel of a port is put into the mask. Assumes nothing.
 use mathlib.Core.Path.{ap, ◌∙◌}
 use native.Mathlib.Omega.{arith}
-use borrow.Author.Rules.{rules}
 use borrow.Author.Tests.{eq-eqb, ne_eqb}
 use Rattle.words.specs.Masks.{with_slot}
 use Rattle.records.proofs.NodeLaws.{channel_below}

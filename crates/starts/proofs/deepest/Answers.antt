@@ -1,10 +1,7 @@
 -- `starts::deepest` meets its contract: before turn u it has the least of the first u totals. Assumes nothing.
 use mathlib.Core.Path.{◌≡◌}
-use Prim.Native.Nat.{◌-◌, ◌≤◌}
 use native.Mathlib.Omega.{arith}
-use borrow.Author.Rules.{rules}
 use Rattle.folding.specs.Walks.{deepest}
-use Rattle.rounds.specs.Rounds.{row_of}
 use Rattle.starts.proofs.ShiftLaws.{least_more}
 use Rattle.starts.proofs.deepest.Goals as goal
 

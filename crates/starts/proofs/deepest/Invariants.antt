@@ -1,11 +1,8 @@
 -- `starts::deepest` meets its contract: what its loop keeps.
 use mathlib.Core.Path.{◌≡◌}
 use Prim.Native.Nat.{◌-◌, ◌≤◌}
-use native.Mathlib.Omega.{arith}
-use borrow.Author.Rules.{rules}
 use Rattle.folding.specs.Walks.{deepest}
 use Rattle.rounds.specs.Rounds.{row_of}
-use Rattle.starts.proofs.ShiftLaws.{least_more}
 use Rattle.starts.proofs.deepest.Given as goal
 
 abbrev pub invariant-loop-u : goal.invariant-loop-u

@@ -1,5 +1,4 @@
 -- `starts::retime` meets its contract: the settled totals are the latest row, and their starts its own. Assumes nothing.
-use borrow.Author.Rules.{rules}
 use borrow.Author.Tests.{not-true, not-false}
 use Rattle.rounds.specs.Rounds.{bytes_net}
 use Rattle.rounds.proofs.RowLaws.{closed}

@@ -1,13 +1,11 @@
 -- `starts::starts` meets its contract: before turn u the starts of the first u nodes are made. Assumes nothing.
 use mathlib.Core.Path.{◌≡◌, ◌∙◌}
-use Prim.Native.Nat.{ℕ, ◌-◌, ◌<◌, ◌≤◌}
 use native.Mathlib.Omega.{arith}
 use borrow.Author.Rules.{rules}
-use lib.ListN.{length, length-set}
+use lib.ListN.{length-set}
 use lib.IntN.{◌-ℤ◌, pos}
 use Rattle.times.specs.declared.Iterations.{Iterations}
 use Rattle.times.specs.Times.{iterations_at}
-use Rattle.records.specs.Records.{most_nodes}
 use Rattle.rounds.specs.Rounds.{row_of}
 use Rattle.starts.specs.Starts.{shifted}
 use Rattle.starts.proofs.ShiftLaws.{shift_at}

@@ -1,17 +1,11 @@
 -- `starts::starts` meets its contract: what its loop keeps.
-use mathlib.Core.Path.{◌≡◌, ◌∙◌}
+use mathlib.Core.Path.{◌≡◌}
 use Prim.Native.Nat.{ℕ, ◌-◌, ◌<◌, ◌≤◌}
-use native.Mathlib.Omega.{arith}
-use borrow.Author.Rules.{rules}
-use lib.ListN.{length, length-set}
-use lib.IntN.{◌-ℤ◌, pos}
-use Rattle.times.specs.declared.Iterations.{Iterations}
+use lib.ListN.{length}
 use Rattle.times.specs.Times.{iterations_at}
 use Rattle.records.specs.Records.{most_nodes}
 use Rattle.rounds.specs.Rounds.{row_of}
 use Rattle.starts.specs.Starts.{shifted}
-use Rattle.starts.proofs.ShiftLaws.{shift_at}
-use Rattle.times.proofs.ArrayLaws.{filled_more}
 use Rattle.starts.proofs.starts.Given as goal
 
 abbrev pub invariant-loop-u : goal.invariant-loop-u

@@ -2,7 +2,6 @@
 use native.Mathlib.Omega.{arith}
 use Rattle.text.proofs.LoopLaws.{whole_of}
 use Rattle.text.proofs.TextingLaws.{texting_short, texting_done}
-use borrow.Author.Rules.{rules}
 use Rattle.text.proofs.loop_shown.Goals as goal
 
 pub loop_line-size-requires : goal.loop_line-size-requires

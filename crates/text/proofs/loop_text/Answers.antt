@@ -3,7 +3,6 @@ use mathlib.Core.Path.{sym, ◌∙◌}
 use Rattle.records.proofs.AnswerLaws.{passed_none}
 use Rattle.text.proofs.LoopLaws.{why_loop}
 use Rattle.text.proofs.TextingLaws.{texting_refused}
-use borrow.Author.Rules.{rules}
 use Rattle.text.proofs.loop_text.Goals as goal
 
 pub loop_shown-requires : goal.loop_shown-requires

@@ -1,7 +1,6 @@
 -- `text::plan_shown` meets its contract: 7 where the text that was measured has no room, else it is written. Assumes nothing.
 use native.Mathlib.Omega.{arith}
 use Rattle.text.proofs.TextingLaws.{texting_short, texting_done}
-use borrow.Author.Rules.{rules}
 use Rattle.text.proofs.plan_shown.Goals as goal
 
 pub returns-then-out-size : goal.returns-then-out-size

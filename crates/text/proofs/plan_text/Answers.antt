@@ -1,7 +1,6 @@
 -- `text::plan_text` meets its contract: a plan with a fault is refused, and nothing changes. Assumes nothing.
 use mathlib.Core.Path.{sym, ◌∙◌}
 use Rattle.text.proofs.TextingLaws.{got_of, plan_refused}
-use borrow.Author.Rules.{rules}
 use Rattle.text.proofs.plan_text.Goals as goal
 
 pub plan_shown-requires : goal.plan_shown-requires

@@ -2,7 +2,6 @@
 use mathlib.Core.Path.{refl}
 use native.Mathlib.Omega.{arith}
 use Rattle.text.proofs.TextingLaws.{texting_short, texting_done}
-use borrow.Author.Rules.{rules}
 use Rattle.text.proofs.refused_text.Goals as goal
 
 pub returns-then-out-size : goal.returns-then-out-size

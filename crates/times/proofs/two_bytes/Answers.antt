@@ -3,7 +3,6 @@ use native.Mathlib.Omega.{arith}
 use Prim.Native.Nat.{◌+◌, ◌*◌}
 use mir.Syntax.{w32}
 use mir.ValLaws.{to_z_pos}
-use borrow.Author.Rules.{rules}
 use Rattle.times.proofs.two_bytes.Goals as goal
 
 pub returns : goal.returns

@@ -1,5 +1,5 @@
 -- `vectors::steps` meets its contract: the slices keep their lengths. Assumes nothing.
-use Rattle.std.proofs.Common.{◌≡◌, ◌-◌, length, rules}
+use Rattle.std.proofs.Common.{◌≡◌, ◌-◌, length}
 use Rattle.vectors.proofs.steps.Given as goal
 
 abbrev pub invariant-loop-j : goal.invariant-loop-j

@@ -3,7 +3,6 @@ use mathlib.Core.Path.{refl}
 use lib.IntN.{pos}
 use Rattle.times.specs.declared.Cycles.{Cycles}
 use Rattle.times.proofs.ArrayLaws.{none_filled}
-use borrow.Author.Rules.{rules}
 use Rattle.waits.proofs.no_waits.Goals as goal
 
 pub returns : goal.returns

@@ -3,7 +3,6 @@ use mathlib.Core.Path.{refl, ◌∙◌}
 use Rattle.folding.specs.Folding.{raw}
 use Rattle.sheets.specs.Sheet.{sheet_of, wire_of}
 use Rattle.waits.proofs.FineLaws.{leaves_so, meets_so, on_unit_so, fold_so}
-use borrow.Author.Rules.{rules}
 use Rattle.waits.proofs.raw_wait.Goals as goal
 
 pub node_of-from-requires : goal.node_of-from-requires

@@ -2,7 +2,6 @@
 use mathlib.Core.Path.{refl, ◌∙◌}
 use Rattle.waits.proofs.WaitSizes.{gap_fits_too, turns_fit, wait_fits}
 use Rattle.waits.proofs.FineLaws.{fold_some}
-use borrow.Author.Rules.{rules}
 use Rattle.waits.proofs.wait_of.Goals as goal
 
 pub minus-requires : goal.minus-requires

@@ -1,6 +1,6 @@
 -- `waits::waits` meets its contract: the wait between the starts of each wire is its tap, and the longest so far is kept for its node and its
 -- unit. Assumes nothing.
-use Prim.Native.Nat.{ℕ, ◌-◌, ◌<◌, ◌≤◌}
+use Prim.Native.Nat.{ℕ, ◌<◌, ◌≤◌}
 use mathlib.Core.Path.{◌≡◌, refl, ap, ◌∙◌}
 use mathlib.Core.Bool.{cond}
 use native.Mathlib.Omega.{arith}
@@ -10,14 +10,13 @@ use lib.IntN.{pos}
 use borrow.Author.Rules.{rules}
 use Rattle.times.specs.declared.Cycles.{Cycles}
 use Rattle.words.specs.Loops.{largest}
-use Rattle.times.specs.Times.{cycles_at}
 use Rattle.sheets.specs.Sheet.{sheet_of}
 use Rattle.folding.specs.Walks.{start}
 use Rattle.folding.specs.Folding.{net, tap}
 use Rattle.waits.specs.Fine.{from_node, from_unit}
 use Rattle.waits.proofs.FineLaws.{leaves_so, meets_so, on_unit_so, few_units, few_nodes, few_wires, wires_so}
 use Rattle.waits.proofs.WaitSizes.{start_near, wait_is_tap}
-use Rattle.waits.proofs.LongestLaws.{SoFar, longest_none, longest_more}
+use Rattle.waits.proofs.LongestLaws.{longest_none, longest_more}
 use Rattle.times.proofs.ArrayLaws.{filled_more}
 use Rattle.waits.proofs.waits.Goals as goal
 use Rattle.waits.proofs.waits.Goals.{After-node_of-unit, After-wait_of-wait, After-wire_of-wire}

@@ -1,23 +1,14 @@
 -- `waits::waits` meets its contract: what its loop keeps.
 use Prim.Native.Nat.{ℕ, ◌-◌, ◌<◌, ◌≤◌}
-use mathlib.Core.Path.{◌≡◌, refl, ap, ◌∙◌}
-use mathlib.Core.Bool.{cond}
-use native.Mathlib.Omega.{arith}
-use lib.Dec.{eqb}
-use lib.ListN.{length, get_or, length-set}
+use mathlib.Core.Path.{◌≡◌}
+use lib.ListN.{length}
 use lib.IntN.{pos}
-use borrow.Author.Rules.{rules}
-use Rattle.times.specs.declared.Cycles.{Cycles}
-use Rattle.words.specs.Loops.{largest}
 use Rattle.times.specs.Times.{cycles_at}
 use Rattle.sheets.specs.Sheet.{sheet_of}
 use Rattle.folding.specs.Walks.{start}
 use Rattle.folding.specs.Folding.{net, tap}
 use Rattle.waits.specs.Fine.{from_node, from_unit}
-use Rattle.waits.proofs.FineLaws.{leaves_so, meets_so, on_unit_so, few_units, few_nodes, few_wires, wires_so}
-use Rattle.waits.proofs.WaitSizes.{start_near, wait_is_tap}
-use Rattle.waits.proofs.LongestLaws.{SoFar, longest_none, longest_more}
-use Rattle.times.proofs.ArrayLaws.{filled_more}
+use Rattle.waits.proofs.LongestLaws.{SoFar}
 use Rattle.waits.proofs.waits.Given as goal
 
 abbrev pub invariant-loop-e : goal.invariant-loop-e

@@ -1,6 +1,6 @@
 -- `words::difference` meets its contract: the result is a word and with b gives a mod 2^32, and the difference alone does.
 -- Assumes nothing.
-use Rattle.std.proofs.Common.{arith, rules}
+use Rattle.std.proofs.Common.{arith}
 use Rattle.words.proofs.WordLaws.{difference_is}
 use Rattle.words.proofs.difference.Goals as goal
 

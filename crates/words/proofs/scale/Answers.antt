@@ -1,5 +1,5 @@
 -- `words::scale` meets its contract: the product of a word and K fits 64 bits, and the shift is the floor. Assumes nothing.
-use Rattle.std.proofs.Common.{◌≡◌, ◌^◌, ℤ, ◌*ℤ◌, ap, ◌∙◌, arith, lit<, w16, w64, SFits, to_z, of_z, rules}
+use Rattle.std.proofs.Common.{◌≡◌, ◌^◌, ℤ, ◌*ℤ◌, ap, ◌∙◌, arith, lit<, w16, w64, SFits, to_z, of_z}
 use mir.Facts.{sfits_widen}
 use mir.ValLaws.{to_z-of_z}
 use Rattle.words.specs.Words.{turn, half_turn, whole_gain, floor, residue, signed, scale}

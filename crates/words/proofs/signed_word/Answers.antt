@@ -1,5 +1,5 @@
 -- `words::signed_word` meets its contract: a word from 2^31 on is read a turn lower. Assumes nothing.
-use Rattle.std.proofs.Common.{◌≡◌, pos, ◌-ℤ◌, arith, w64, SFits, to_z, rules}
+use Rattle.std.proofs.Common.{◌≡◌, pos, ◌-ℤ◌, arith, w64, SFits, to_z}
 use mir.ValLaws.{to_z-of_z, to_z_pos}
 use Rattle.words.specs.Words.{turn, half_turn, signed}
 use Rattle.words.proofs.WordLaws.{signed_low, signed_high, signed_fits}

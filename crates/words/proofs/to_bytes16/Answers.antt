@@ -1,5 +1,5 @@
 -- `words::to_bytes16` meets its contract: the low half of the word of k is k mod 2^16. Assumes nothing.
-use Rattle.std.proofs.Common.{◌≡◌, ℕ, ◌%◌, ℤ, ap, ◌∙◌, w16, w64, SFits, to_z, of_z, rules}
+use Rattle.std.proofs.Common.{◌≡◌, ℕ, ◌%◌, ℤ, ap, ◌∙◌, w16, w64, SFits, to_z, of_z}
 use mir.Facts.{sfits_widen}
 use mir.ValLaws.{to_z-of_z}
 use Rattle.words.specs.Words.{turn, residue}

@@ -1,5 +1,5 @@
 -- `words::two_complement` meets its contract: a number from 2^15 on is read 2^16 lower. Assumes nothing.
-use Rattle.std.proofs.Common.{◌≡◌, pos, ◌-ℤ◌, arith, w16, w32, SFits, to_z, rules}
+use Rattle.std.proofs.Common.{◌≡◌, pos, ◌-ℤ◌, arith, w16, w32, SFits, to_z}
 use mir.ValLaws.{to_z-of_z, to_z_pos}
 use Rattle.words.specs.Words.{signed}
 use Rattle.words.proofs.WordLaws.{signed_low, signed_high, signed_fits}

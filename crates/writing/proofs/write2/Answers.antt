@@ -3,7 +3,6 @@ use mathlib.Core.Path.{refl}
 use native.Mathlib.Omega.{arith}
 use lib.ListN.{length-set}
 use Rattle.writing.specs.Laid.{laid}
-use borrow.Author.Rules.{rules}
 use Rattle.writing.proofs.write2.Goals as goal
 
 pub bounds-out-at-2 : goal.bounds-out-at-2

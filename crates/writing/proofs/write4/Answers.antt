@@ -4,7 +4,6 @@ use mathlib.Core.Path.{◌≡◌}
 use native.Mathlib.Omega.{arith}
 use lib.ListN.{length-set}
 use Rattle.writing.specs.Laid.{laid}
-use borrow.Author.Rules.{rules}
 use Rattle.writing.proofs.write4.Goals as goal
 
 pub bounds-out-at-2 : goal.bounds-out-at-2

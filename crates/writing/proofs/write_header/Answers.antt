@@ -2,7 +2,6 @@
 use mathlib.Core.List.{[], ◌∷◌}
 use Rattle.records.specs.Records.{low, high}
 use Rattle.writing.proofs.LaidLaws.{laid_append}
-use borrow.Author.Rules.{rules}
 use Rattle.writing.proofs.write_header.Goals as goal
 
 pub returns : goal.returns

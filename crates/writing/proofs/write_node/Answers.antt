@@ -4,7 +4,6 @@ use lib.IntN.{nat_abs}
 use Rattle.records.specs.Records.{low, high}
 use Rattle.writing.proofs.LaidLaws.{laid_append}
 use Rattle.words.specs.Words.{residue}
-use borrow.Author.Rules.{rules}
 use Rattle.writing.proofs.write_node.Goals as goal
 
 pub returns : goal.returns

@@ -3,7 +3,6 @@ use mathlib.Core.List.{[], ◌∷◌}
 use lib.IntN.{nat_abs}
 use Rattle.records.specs.Records.{low, high}
 use Rattle.writing.proofs.LaidLaws.{laid_append}
-use borrow.Author.Rules.{rules}
 use Rattle.writing.proofs.write_unit.Goals as goal
 
 pub returns : goal.returns

@@ -1,5 +1,4 @@
 -- `gongperch::planning::gongperch_plan` meets its contract: the planner's answer by its number and its length. Assumes nothing.
-use borrow.Author.Rules.{rules}
 use Rattle.gongperch.proofs.planning.gongperch_plan.Goals as goal
 
 pub returns : goal.returns

@@ -7,7 +7,6 @@ use lib.Dec.{eqb}
 use Rattle.plans.specs.Plan.{plan_read}
 use Rattle.plans.proofs.WholeLaws.{folds_so, unit_inside}
 use Rattle.judging.proofs.FigureLaws.{ones_most, figures_so}
-use borrow.Author.Rules.{rules}
 use Rattle.judging.proofs.figures.unit_right.Goals as goal
 
 pub overflow_sub-idle : goal.overflow_sub-idle

@@ -1,9 +1,8 @@
 -- `judging::switches::inputs_of` meets its contract: the units passed have their kind's inputs. Assumes nothing.
-use Prim.Native.Nat.{ℕ, ◌-◌, ◌<◌, ◌≤◌}
+use Prim.Native.Nat.{ℕ, ◌<◌}
 use mathlib.Core.Path.{◌≡◌, refl, ap, ◌∙◌, subst}
 use native.Mathlib.Omega.{arith}
-use lib.ListN.{length, length-set}
-use borrow.Author.Rules.{rules}
+use lib.ListN.{length-set}
 use Rattle.records.specs.declared.Unit.{Unit}
 use Rattle.records.specs.Units.{inputs}
 use Rattle.plans.specs.Plan.{plan_read}

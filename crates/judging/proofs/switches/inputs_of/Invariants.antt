@@ -1,17 +1,9 @@
 -- `judging::switches::inputs_of` meets its contract: what its loop keeps.
-use Prim.Native.Nat.{ℕ, ◌-◌, ◌<◌, ◌≤◌}
-use mathlib.Core.Path.{◌≡◌, refl, ap, ◌∙◌, subst}
-use native.Mathlib.Omega.{arith}
-use lib.ListN.{length, length-set}
-use borrow.Author.Rules.{rules}
-use Rattle.records.specs.declared.Unit.{Unit}
-use Rattle.records.specs.Units.{inputs}
+use Prim.Native.Nat.{◌-◌, ◌≤◌}
+use mathlib.Core.Path.{◌≡◌}
+use lib.ListN.{length}
 use Rattle.plans.specs.Plan.{plan_read}
-use Rattle.plans.proofs.ReadLaws.{units_read}
-use Rattle.plans.proofs.WholeLaws.{units_so}
 use Rattle.judging.specs.Answers.{InputsOf}
-use Rattle.judging.proofs.RunLaws.{unit_ends, unit_got}
-use Rattle.judging.proofs.SwitchLaws.{counts_of, inputs_more}
 use Rattle.judging.proofs.switches.inputs_of.Given as goal
 
 abbrev pub invariant-loop-q : goal.invariant-loop-q

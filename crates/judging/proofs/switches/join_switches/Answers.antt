@@ -1,6 +1,6 @@
 -- `judging::switches::join_switches` meets its contract: no switch passed has a fault, the masks hold the inputs that they feed and each
 -- tap counts for the unit that it reads; the first switch with a fault is handed up. Assumes nothing.
-use Prim.Native.Nat.{ℕ, ◌<◌, ◌≤◌, ◌-◌}
+use Prim.Native.Nat.{ℕ, ◌<◌}
 use mathlib.Core.Path.{◌≡◌, refl, sym, ap, ◌∙◌, subst, subst⁻¹}
 use native.Mathlib.Omega.{arith}
 use lib.ListN.{length, length-set}
@@ -12,11 +12,11 @@ use Rattle.records.specs.Answers.{judged}
 use Rattle.records.proofs.AnswerLaws.{run_refused, passed_none, reason_positive}
 use Rattle.slots.specs.Feeding.{InputMasked}
 use Rattle.slots.proofs.TableLaws.{empty_at}
-use Rattle.slots.proofs.FeedingLaws.{Feeding, feeding_none, feeding_next, feeding_fed}
+use Rattle.slots.proofs.FeedingLaws.{feeding_none, feeding_next, feeding_fed}
 use Rattle.plans.specs.Plan.{plan_read}
 use Rattle.plans.proofs.ReadLaws.{switches_read}
 use Rattle.plans.proofs.WholeLaws.{wires_so}
-use Rattle.judging.specs.Answers.{switch_fault, switch_number, input_of, TapsOf}
+use Rattle.judging.specs.Answers.{switch_fault, switch_number, TapsOf}
 use Rattle.judging.proofs.PartLaws.{held}
 use Rattle.judging.proofs.SwitchLaws.{input_masked, switch_told, GotSwitch, switch_got}
 use Rattle.judging.proofs.FigureLaws.{taps_none, taps_more}

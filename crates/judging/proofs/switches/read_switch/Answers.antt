@@ -6,14 +6,12 @@ use Rattle.records.specs.Records.{marked, wire_place}
 use Rattle.records.specs.Answers.{reason_of}
 use Rattle.plans.specs.Plan.{plan_format}
 use Rattle.plans.specs.Heads.{joint_at}
-use Rattle.plans.specs.Judging.{switch_fits}
 use Rattle.plans.proofs.ReadLaws.{fold_read, units_read}
 use Rattle.plans.proofs.WholeLaws.{folds_so, units_so, switch_inside}
 use Rattle.judging.specs.declared.switches.SwitchRead.TheVariants as S
 use Rattle.judging.specs.Answers.{switch_fault}
 use Rattle.judging.proofs.RunLaws.{switch_marked, switch_place_said}
 use Rattle.judging.proofs.SwitchLaws.{counts_of, fits_so, joint_fits}
-use borrow.Author.Rules.{rules}
 use Rattle.judging.proofs.switches.read_switch.Goals as goal
 use Rattle.judging.proofs.switches.read_switch.Goals.{After-marked}
 

@@ -3,7 +3,6 @@ use mathlib.Core.Path.{refl}
 use mathlib.Core.Bool.{and-false}
 use borrow.Author.Tests.{le-ltb}
 use Rattle.judging.proofs.SwitchLaws.{fits_both}
-use borrow.Author.Rules.{rules}
 use Rattle.judging.proofs.switches.switch_fits.Goals as goal
 
 pub returns-then-p-j : goal.returns-then-p-j

@@ -5,7 +5,6 @@ use Rattle.records.specs.Answers.{judged}
 use Rattle.records.proofs.AnswerLaws.{answer_reason}
 use Rattle.judging.specs.declared.switches.SwitchRead.{SwitchRead}
 use Rattle.judging.specs.Answers.{switch_number}
-use borrow.Author.Rules.{rules}
 use Rattle.judging.proofs.switches.switch_judged.Goals as goal
 
 pub returns-in-Refused : goal.returns-in-Refused

@@ -1,6 +1,5 @@
 -- `planner::figures::live_in` meets its contract: a sheet with a fault has no live cycles. Assumes nothing.
 use mathlib.Core.Path.{sym, ◌∙◌}
-use borrow.Author.Rules.{rules}
 use Rattle.planner.proofs.AnswerLaws.{got_fine}
 use Rattle.planner.proofs.FigureLaws.{refused_none}
 use Rattle.planner.proofs.figures.live_in.Goals as goal

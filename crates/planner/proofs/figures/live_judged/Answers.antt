@@ -2,7 +2,6 @@
 use Prim.Native.Nat.{◌<◌}
 use mathlib.Core.Path.{sym, ◌∙◌}
 use native.Mathlib.Omega.{arith}
-use borrow.Author.Rules.{rules}
 use borrow.Author.Tests.{not-true, not-false}
 use Rattle.sheets.specs.Sheet.{sheet_of}
 use Rattle.waits.proofs.FineLaws.{fold_so, fold_some}

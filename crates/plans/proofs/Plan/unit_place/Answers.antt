@@ -1,7 +1,6 @@
 -- `plans::Plan::unit_place` meets its contract: the place is that of the run. Assumes nothing.
 use mathlib.Core.Path.{refl, ◌∙◌}
 use native.Mathlib.Omega.{arith}
-use borrow.Author.Rules.{rules}
 use Rattle.plans.proofs.Plan.unit_place.Goals as goal
 
 pub place-requires : goal.place-requires

@@ -1,8 +1,6 @@
 -- `records::reading::judge_nodes` meets its contract: no node passed has a fault, and the first that has one is handed up. Assumes nothing.
-use Prim.Native.Nat.{◌≤◌, ◌-◌}
 use mathlib.Core.Path.{◌≡◌, refl, sym, ap, ◌∙◌}
 use native.Mathlib.Omega.{arith}
-use borrow.Author.Rules.{rules}
 use Rattle.words.specs.Loops.{first}
 use Rattle.words.proofs.FaultLaws.{first_more}
 use Rattle.records.specs.Answers.{judged, node_part, node_number, node_fault}

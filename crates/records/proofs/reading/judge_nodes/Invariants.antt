@@ -1,12 +1,8 @@
 -- `records::reading::judge_nodes` meets its contract: what its loop keeps.
 use Prim.Native.Nat.{◌≤◌, ◌-◌}
-use mathlib.Core.Path.{◌≡◌, refl, sym, ap, ◌∙◌}
-use native.Mathlib.Omega.{arith}
-use borrow.Author.Rules.{rules}
+use mathlib.Core.Path.{◌≡◌}
 use Rattle.words.specs.Loops.{first}
-use Rattle.words.proofs.FaultLaws.{first_more}
-use Rattle.records.specs.Answers.{judged, node_part, node_number, node_fault}
-use Rattle.records.proofs.AnswerLaws.{in_run, node_told, run_refused}
+use Rattle.records.specs.Answers.{node_fault}
 use Rattle.records.proofs.reading.judge_nodes.Given as goal
 
 abbrev pub invariant-loop-i : goal.invariant-loop-i

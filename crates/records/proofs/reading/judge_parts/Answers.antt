@@ -1,6 +1,5 @@
 -- `records::reading::judge_parts` meets its contract: the first part with a fault decides. Assumes nothing.
 use mathlib.Core.Path.{sym, ◌∙◌}
-use borrow.Author.Rules.{rules}
 use borrow.Author.Tests.{eq-eqb, ne_eqb}
 use Rattle.records.specs.declared.reading.Judged.TheVariants as J
 use Rattle.records.specs.Answers.{reason_of, units_fault, nodes_fault}

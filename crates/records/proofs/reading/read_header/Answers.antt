@@ -5,7 +5,6 @@ use mathlib.Core.List.{[], ◌∷◌}
 use borrow.Author.Tests.{lt-leb, le-leb, not-true, not-false}
 use Rattle.records.specs.Records.{marked, counts_fit}
 use Rattle.records.specs.Answers.{reason_of, header_fits, header_answer}
-use borrow.Author.Rules.{rules}
 use Rattle.records.proofs.reading.read_header.Goals as goal
 use Rattle.records.proofs.reading.read_header.Goals.{After-fits, Else-not-b-first, Then-not-b-first}
 

@@ -3,7 +3,6 @@ use mathlib.Core.Path.{◌≡◌, sym, ap, ◌∙◌}
 use borrow.Author.Tests.{not-true, not-false}
 use Rattle.records.specs.Records.{node_fits}
 use Rattle.records.specs.Answers.{reason_of, units_in_run, nodes_in_run, node_fault}
-use borrow.Author.Rules.{rules}
 use Rattle.records.proofs.reading.read_node.Goals as goal
 use Rattle.records.proofs.reading.read_node.Goals.{After-node_fits-fits}
 

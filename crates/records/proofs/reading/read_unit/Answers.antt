@@ -3,7 +3,6 @@ use mathlib.Core.Path.{◌≡◌, sym, ap, ◌∙◌}
 use borrow.Author.Tests.{not-true, not-false}
 use Rattle.records.specs.Units.{unit_fits}
 use Rattle.records.specs.Answers.{reason_of, units_in_run, unit_fault}
-use borrow.Author.Rules.{rules}
 use Rattle.records.proofs.reading.read_unit.Goals as goal
 use Rattle.records.proofs.reading.read_unit.Goals.{After-fits-fits}
 

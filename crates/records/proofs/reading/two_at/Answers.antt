@@ -1,7 +1,6 @@
 -- `records::reading::two_at` meets its contract: two bytes are below 2^16. Assumes nothing.
 use Prim.Native.Nat.{◌+◌}
 use native.Mathlib.Omega.{arith}
-use borrow.Author.Rules.{rules}
 use Rattle.records.proofs.reading.two_at.Goals as goal
 
 pub overflow_cast-result : goal.overflow_cast-result

@@ -1,6 +1,5 @@
 -- `records::reading::unit_in` meets its contract: its two bytes behind the mark. Assumes nothing.
 use mathlib.Core.Path.{◌∙◌}
-use borrow.Author.Rules.{rules}
 use Rattle.records.proofs.reading.unit_in.Goals as goal
 
 pub returns : goal.returns

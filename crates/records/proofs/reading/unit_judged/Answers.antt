@@ -4,7 +4,6 @@ use Rattle.records.specs.declared.reading.UnitRead.{UnitRead}
 use Rattle.records.specs.declared.reading.Judged.TheVariants as J
 use Rattle.records.specs.Answers.{judged, unit_number}
 use Rattle.records.proofs.AnswerLaws.{answer_reason}
-use borrow.Author.Rules.{rules}
 use Rattle.records.proofs.reading.unit_judged.Goals as goal
 
 pub returns-in-Refused : goal.returns-in-Refused

@@ -1,5 +1,5 @@
 -- `scripts::reading::decode` meets its contract: what its loop keeps.
-use Rattle.std.proofs.Common.{◌≡◌, ◌-◌, ◌≤◌, length, ⊎_elim, rules}
+use Rattle.std.proofs.Common.{◌≡◌, ◌-◌, ◌≤◌, length}
 use Rattle.scripts.proofs.reading.decode.Given as goal
 
 abbrev pub invariant-loop-i : goal.invariant-loop-i

@@ -1,13 +1,10 @@
 -- `sheets::judging::fed_of` meets its contract: the masks hold the inputs that the wires passed feed. Assumes nothing.
-use Prim.Native.Nat.{◌<◌, ◌≤◌, ◌-◌}
+use Prim.Native.Nat.{◌<◌}
 use mathlib.Core.Path.{◌≡◌, refl, subst⁻¹}
 use native.Mathlib.Omega.{arith}
-use borrow.Author.Rules.{rules}
 use Rattle.slots.specs.Feeding.{InputMasked}
 use Rattle.slots.proofs.TableLaws.{empty_at}
-use Rattle.slots.proofs.FeedingLaws.{Feeding, feeding_none, feeding_next, feeding_fed}
-use Rattle.sheets.specs.Sheet.{sheet_of}
-use Rattle.sheets.specs.Answers.{input_of}
+use Rattle.slots.proofs.FeedingLaws.{feeding_none, feeding_next, feeding_fed}
 use Rattle.sheets.proofs.SheetLaws.{wires_is}
 use Rattle.sheets.proofs.HeldLaws.{wires_said}
 use Rattle.sheets.proofs.MaskedLaws.{input_masked}

@@ -1,16 +1,8 @@
 -- `sheets::judging::fed_of` meets its contract: what its loop keeps.
-use Prim.Native.Nat.{◌<◌, ◌≤◌, ◌-◌}
-use mathlib.Core.Path.{◌≡◌, refl, subst⁻¹}
-use native.Mathlib.Omega.{arith}
-use borrow.Author.Rules.{rules}
-use Rattle.slots.specs.Feeding.{InputMasked}
-use Rattle.slots.proofs.TableLaws.{empty_at}
-use Rattle.slots.proofs.FeedingLaws.{Feeding, feeding_none, feeding_next, feeding_fed}
+use Prim.Native.Nat.{◌≤◌, ◌-◌}
+use Rattle.slots.proofs.FeedingLaws.{Feeding}
 use Rattle.sheets.specs.Sheet.{sheet_of}
 use Rattle.sheets.specs.Answers.{input_of}
-use Rattle.sheets.proofs.SheetLaws.{wires_is}
-use Rattle.sheets.proofs.HeldLaws.{wires_said}
-use Rattle.sheets.proofs.MaskedLaws.{input_masked}
 use Rattle.sheets.proofs.judging.fed_of.Given as goal
 
 abbrev pub invariant-loop-e : goal.invariant-loop-e

@@ -9,7 +9,6 @@ use Rattle.sheets.specs.Sheet.{sheet_of, node_of}
 use Rattle.sheets.proofs.SheetLaws.{nodes_is, wires_is}
 use Rattle.sheets.proofs.HeldLaws.{nodes_said, wires_said}
 use Rattle.sheets.proofs.MaskedLaws.{wire_fit}
-use borrow.Author.Rules.{rules}
 use Rattle.sheets.proofs.judging.input_of.Goals as goal
 
 pub node_of-n-requires : goal.node_of-n-requires

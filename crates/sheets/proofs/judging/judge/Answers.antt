@@ -3,7 +3,6 @@ use mathlib.Core.Path.{◌≡◌, sym, ◌∙◌}
 use Rattle.records.proofs.AnswerLaws.{passed_none}
 use Rattle.sheets.specs.Answers.{head_fault, records_fault, HeaderSaid}
 use Rattle.sheets.proofs.PartLaws.{head_refused, head_got, records_refused, nodes_refused, all_passed, held}
-use borrow.Author.Rules.{rules}
 use Rattle.sheets.proofs.judging.judge.Goals as goal
 use Rattle.sheets.proofs.judging.judge.Goals.{In-Got, In_default-records}
 

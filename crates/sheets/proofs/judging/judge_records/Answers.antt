@@ -6,7 +6,6 @@ use Rattle.records.proofs.AnswerLaws.{passed_none, refused_first}
 use Rattle.sheets.specs.Sheet.{sheet_format}
 use Rattle.sheets.specs.Answers.{wires_fault}
 use Rattle.sheets.proofs.PartLaws.{whole_below, sheet_inside, sheet_front, sheet_whole}
-use borrow.Author.Rules.{rules}
 use Rattle.sheets.proofs.judging.judge_records.Goals as goal
 use Rattle.sheets.proofs.judging.judge_records.Goals.{After-judge_parts-judged, In-Passed}
 

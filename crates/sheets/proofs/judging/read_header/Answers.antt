@@ -7,7 +7,6 @@ use Rattle.records.specs.Answers.{header_in}
 use Rattle.records.specs.Answers as R
 use Rattle.records.proofs.AnswerLaws.{answer_map}
 use Rattle.sheets.specs.Answers.{head_fault, header_answer, sheet_read}
-use borrow.Author.Rules.{rules}
 use Rattle.sheets.proofs.judging.read_header.Goals as goal
 
 taken_over : (b : List ℕ) → sheet_read (R.header_answer b 6 (70 ∷ 72 ∷ [])) ≡ header_answer b

@@ -7,7 +7,6 @@ use Rattle.records.specs.Answers.{reason_of}
 use Rattle.sheets.specs.Sheet.{sheet_format, sheet_of, wire_of, wire_fits}
 use Rattle.sheets.specs.Answers.{wire_fault}
 use Rattle.sheets.proofs.HeldLaws.{wire_ends, wire_marked}
-use borrow.Author.Rules.{rules}
 use Rattle.sheets.proofs.judging.read_wire.Goals as goal
 use Rattle.sheets.proofs.judging.read_wire.Goals.{After-marked-right, After-wire_fits-fits}
 

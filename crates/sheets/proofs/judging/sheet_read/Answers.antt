@@ -2,7 +2,6 @@
 use mathlib.Core.Path.{sym, ap, ◌∙◌}
 use Rattle.sheets.specs.declared.judging.SheetRead.TheVariants as S
 use Rattle.sheets.specs.Answers.{sheet_read}
-use borrow.Author.Rules.{rules}
 use Rattle.sheets.proofs.judging.sheet_read.Goals as goal
 
 pub returns-in-Got : goal.returns-in-Got

@@ -9,7 +9,6 @@ use Rattle.slots.proofs.SlotLaws.{slots_same}
 use Rattle.sheets.proofs.SheetLaws.{nodes_is}
 use Rattle.sheets.proofs.HeldLaws.{nodes_said, node_room, node_got}
 use Rattle.sheets.proofs.MaskedLaws.{node_masked}
-use borrow.Author.Rules.{rules}
 use Rattle.sheets.proofs.judging.slots_of.Goals as goal
 
 pub slots_in-requires : goal.slots_in-requires

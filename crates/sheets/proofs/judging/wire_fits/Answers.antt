@@ -8,7 +8,6 @@ use Rattle.sheets.specs.Sheet.{sheet_of}
 use Rattle.sheets.proofs.SheetLaws.{nodes_is}
 use Rattle.sheets.proofs.HeldLaws.{nodes_said}
 use Rattle.sheets.proofs.WireLaws.{wire_off, wire_on}
-use borrow.Author.Rules.{rules}
 use Rattle.sheets.proofs.judging.wire_fits.Goals as goal
 use Rattle.sheets.proofs.judging.wire_fits.Goals.{Start}
 

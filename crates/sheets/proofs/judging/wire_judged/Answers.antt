@@ -5,7 +5,6 @@ use Rattle.records.specs.Answers.{judged}
 use Rattle.records.proofs.AnswerLaws.{answer_reason}
 use Rattle.sheets.specs.declared.judging.WireRead.{WireRead}
 use Rattle.sheets.specs.Answers.{wire_number}
-use borrow.Author.Rules.{rules}
 use Rattle.sheets.proofs.judging.wire_judged.Goals as goal
 
 pub returns-in-Refused : goal.returns-in-Refused

@@ -1,5 +1,4 @@
 -- `slots::feeding::unit_fed` meets its contract: its tests are the definition's. Assumes nothing.
-use borrow.Author.Rules.{rules}
 use Rattle.slots.proofs.feeding.unit_fed.Goals as goal
 
 pub returns : goal.returns

@@ -1,14 +1,12 @@
 -- `slots::feeding::units_fed` meets its contract: the units passed are fed. Assumes nothing.
 use mathlib.Core.Path.{◌≡◌, sym, ap, ◌∙◌}
-use mathlib.Core.Bool.{true}
-use Prim.Native.Nat.{◌+◌, ◌*◌, ◌≤◌, ◌-◌}
+use Prim.Native.Nat.{◌+◌, ◌*◌}
 use native.Mathlib.Omega.{arith}
 use lib.ListN.{get_or}
-use borrow.Author.Rules.{rules}
 use borrow.Author.Tests.{not-true, not-false}
 use Rattle.records.specs.declared.Unit.{Unit}
 use Rattle.records.specs.Answers.{unit_part, units_in_run}
-use Rattle.slots.specs.Feeding.{most_inputs, unit_fed, units_fed}
+use Rattle.slots.specs.Feeding.{most_inputs, unit_fed}
 use Rattle.records.proofs.AnswerLaws.{in_run}
 use Rattle.slots.proofs.FeedingLaws.{units_none, units_more, units_stop}
 use Rattle.slots.proofs.feeding.units_fed.Goals as goal

@@ -1,16 +1,9 @@
 -- `slots::feeding::units_fed` meets its contract: what its loop keeps.
-use mathlib.Core.Path.{◌≡◌, sym, ap, ◌∙◌}
+use mathlib.Core.Path.{◌≡◌}
 use mathlib.Core.Bool.{true}
-use Prim.Native.Nat.{◌+◌, ◌*◌, ◌≤◌, ◌-◌}
-use native.Mathlib.Omega.{arith}
-use lib.ListN.{get_or}
-use borrow.Author.Rules.{rules}
-use borrow.Author.Tests.{not-true, not-false}
-use Rattle.records.specs.declared.Unit.{Unit}
-use Rattle.records.specs.Answers.{unit_part, units_in_run}
-use Rattle.slots.specs.Feeding.{most_inputs, unit_fed, units_fed}
-use Rattle.records.proofs.AnswerLaws.{in_run}
-use Rattle.slots.proofs.FeedingLaws.{units_none, units_more, units_stop}
+use Prim.Native.Nat.{◌≤◌, ◌-◌}
+use Rattle.records.specs.Answers.{units_in_run}
+use Rattle.slots.specs.Feeding.{units_fed}
 use Rattle.slots.proofs.feeding.units_fed.Given as goal
 
 abbrev pub invariant-loop-q : goal.invariant-loop-q

@@ -3,7 +3,6 @@ use mathlib.Core.Path.{sym, ◌∙◌}
 use borrow.Author.Tests.{not-true, not-false}
 use Rattle.records.specs.Answers.{reason_of}
 use Rattle.text.specs.Texting.{loop_fault}
-use borrow.Author.Rules.{rules}
 use Rattle.text.proofs.refusals.judge_loop.Goals as goal
 
 pub returns-then-not-loop_whole : goal.returns-then-not-loop_whole

@@ -8,7 +8,6 @@ use Rattle.records.specs.Records.{marked}
 use Rattle.records.specs.Answers.{reason_of}
 use Rattle.plans.specs.Plan.{loop_mark}
 use Rattle.text.specs.Texting.{wire_fault}
-use borrow.Author.Rules.{rules}
 use Rattle.text.proofs.refusals.judge_wire.Goals as goal
 use Rattle.text.proofs.refusals.judge_wire.Goals.{Else-not-b-at, Then-not-b-at}
 

@@ -1,14 +1,11 @@
 -- `text::refusals::judge_wires` meets its contract: no record passed has a fault, and the first that has one is handed up. Assumes nothing.
 use mathlib.Core.Path.{◌≡◌, refl, sym, ap, ◌∙◌}
-use Prim.Native.Nat.{◌-◌, ◌≤◌}
 use native.Mathlib.Omega.{arith}
 use Rattle.words.specs.Loops.{first}
 use Rattle.words.proofs.FaultLaws.{first_more}
 use Rattle.records.specs.Answers.{judged}
 use Rattle.records.proofs.AnswerLaws.{passed_none}
-use Rattle.text.specs.Texting.{wire_fault}
 use Rattle.text.proofs.LoopLaws.{run_stops}
-use borrow.Author.Rules.{rules}
 use Rattle.text.proofs.refusals.judge_wires.Goals as goal
 
 pub loop-i-init : goal.loop-i-init

@@ -1,14 +1,8 @@
 -- `text::refusals::judge_wires` meets its contract: what its loop keeps.
-use mathlib.Core.Path.{◌≡◌, refl, sym, ap, ◌∙◌}
+use mathlib.Core.Path.{◌≡◌}
 use Prim.Native.Nat.{◌-◌, ◌≤◌}
-use native.Mathlib.Omega.{arith}
 use Rattle.words.specs.Loops.{first}
-use Rattle.words.proofs.FaultLaws.{first_more}
-use Rattle.records.specs.Answers.{judged}
-use Rattle.records.proofs.AnswerLaws.{passed_none}
 use Rattle.text.specs.Texting.{wire_fault}
-use Rattle.text.proofs.LoopLaws.{run_stops}
-use borrow.Author.Rules.{rules}
 use Rattle.text.proofs.refusals.judge_wires.Given as goal
 
 abbrev pub invariant-loop-i : goal.invariant-loop-i

@@ -3,7 +3,6 @@ use native.Mathlib.Omega.{arith}
 use Rattle.numerals.proofs.WroteLaws.{wrote_then, within}
 use Rattle.lines.specs.Text.{loop_text}
 use Rattle.text.proofs.LoopLaws.{loop_so, wires_so}
-use borrow.Author.Rules.{rules}
 use Rattle.text.proofs.refusals.loop_line.Goals as goal
 
 pub wire_fields-wires-requires : goal.wire_fields-wires-requires

@@ -3,7 +3,6 @@ use mathlib.Core.Path.{refl}
 use borrow.Author.Tests.{leb-true}
 use Rattle.numerals.proofs.WroteLaws.{wrote_then, within}
 use Rattle.lines.specs.Text.{refused_text}
-use borrow.Author.Rules.{rules}
 use Rattle.text.proofs.refusals.refused_line.Goals as goal
 
 pub returns : goal.returns

@@ -1,14 +1,9 @@
 -- `text::refusals::wire_fields` meets its contract: what its loop keeps.
-use mathlib.Core.Path.{refl}
 use Prim.Native.Nat.{ℕ, ◌-◌, ◌*◌, ◌≤◌}
-use native.Mathlib.Omega.{arith}
 use Rattle.numerals.specs.Numerals.{field}
 use Rattle.numerals.specs.Wrote.{Wrote}
-use Rattle.numerals.proofs.WroteLaws.{wrote_length}
 use Rattle.words.specs.Loops.{joined}
 use Rattle.text.specs.Texting.{wire_at}
-use Rattle.lines.proofs.LineLaws.{lines_none, lines_more, lines_done}
-use borrow.Author.Rules.{rules}
 use Rattle.text.proofs.refusals.wire_fields.Given as goal
 
 abbrev pub invariant-loop-i : goal.invariant-loop-i

@@ -7,7 +7,6 @@ use lib.IntN.{pos, ◌-ℤ◌}
 use mir.Syntax.{w32}
 use mir.Val.{SFits, to_z}
 use mir.ValLaws.{to_z-of_z, to_z_pos}
-use borrow.Author.Rules.{rules}
 use Rattle.words.proofs.FitLaws.{gap_fits}
 use Rattle.times.proofs.Cycles.raw.Goals as goal
 use Rattle.times.proofs.Cycles.raw.Goals.{Start}

@@ -1,5 +1,4 @@
 -- `times::Cycles::turns` meets its contract: the count is the number, and N what it is divided by. Assumes nothing.
-use borrow.Author.Rules.{rules}
 use Rattle.times.proofs.Cycles.turns.Goals as goal
 
 pub returns : goal.returns

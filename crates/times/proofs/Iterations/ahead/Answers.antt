@@ -2,7 +2,6 @@
 use mathlib.Core.Path.{ap}
 use Prim.Native.Nat.{◌/◌}
 use lib.Dec.{ltb}
-use borrow.Author.Rules.{rules}
 use Rattle.times.proofs.Iterations.ahead.Goals as goal
 
 pub returns : goal.returns

@@ -1,5 +1,5 @@
 -- `words::masks::has_slot` meets its contract: the lowest bit of the shifted mask is the slot's. Assumes nothing.
-use Rattle.std.proofs.Common.{ℕ, ◌/◌, ◌^◌, eqb, ap, rules}
+use Rattle.std.proofs.Common.{ℕ, ◌/◌, ◌^◌, eqb, ap}
 use lib.Bits.{and_mask}
 use Rattle.words.specs.Masks.{in_mask}
 use Rattle.words.proofs.masks.has_slot.Goals as goal
