@@ -1,7 +1,7 @@
 /* Gongperch: a folding planner and its cycle machine.
 
    A folding sheet (bytes) is planned into a plan (bytes), and a plan is run cycle by cycle in memory that the caller lends.
-   Link libgongperch.a, which `rt lib` writes to crates/gongperch/out; beside it only memcpy and memset are needed. The
+   Link libgongperch.a, which `rt lib` writes to crates/gongperch/out; beside it only memcpy, memmove and memset are needed. The
    library allocates nothing, keeps nothing between calls and never stops the program; any bytes and any words may be passed.
 
    What each call asks of its caller, and what the library cannot see for itself:

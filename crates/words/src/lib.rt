@@ -84,5 +84,6 @@ pub fn floor_div(d: i32, n: u8) -> i32
     ensures { result ≡ floor d n }
 {
     let m = divisor(n) as i32;
-    if d < 0 { -1 - (-1 - d) / m } else { d / m }
+    let below = d < 0;
+    if below { -1 - (-1 - d) / m } else { d / m }
 }

@@ -32,24 +32,24 @@ nonzero_div-result c =
     let s = c.before.before in
     (search rules, simp (read s, whole c.before, to_z-of_z w32 (negsuc 0 -ℤ s.args.d) (mirrored s)) (divided s))
 
-pub overflow_sub-result-then-d-lt0 : goal.overflow_sub-result-then-d-lt0
-overflow_sub-result-then-d-lt0 c =
+pub overflow_sub-result-then-below : goal.overflow_sub-result-then-below
+overflow_sub-result-then-below c =
     let s = c.before.before in
     let q = quot_z (negsuc 0 -ℤ s.args.d) (pos s.args.n) in
     simp (read s, whole c.before, to_z-of_z w32 (negsuc 0 -ℤ s.args.d) (mirrored s), to_z-of_z w32 q (divided s))
     (sfits_le (mag_mirror q) (divided s))
 
-pub nonzero_div-result-else-d-lt0 : goal.nonzero_div-result-else-d-lt0
-nonzero_div-result-else-d-lt0 c =
+pub nonzero_div-result-else-below : goal.nonzero_div-result-else-below
+nonzero_div-result-else-below c =
     let s = c.before.before in
     (search rules, simp (read s, whole c.before) (sfits_le (mag_quot s.args.d s.args.n) s.ranges.d))
 
-pub returns-then-d-lt0 : goal.returns-then-d-lt0
+pub returns-then-below : goal.returns-then-below
 unfolding up down
-returns-then-d-lt0 c =
+returns-then-below c =
     let s = c.before.before in
     let q = quot_z (negsuc 0 -ℤ s.args.d) (pos s.args.n) in
-    let less = ltZ_true s.args.d _ (simp (read s) at c.if-d-lt0.true) in
+    let less = ltZ_true s.args.d _ (simp (read s) at c.if-below.true) in
     simp (
       read s,
       whole c.before,
@@ -59,9 +59,9 @@ returns-then-d-lt0 c =
       to_z-of_z w32 (floor s.args.d s.args.n) (floored s),
     )
 
-pub returns-else-d-lt0 : goal.returns-else-d-lt0
+pub returns-else-below : goal.returns-else-below
 unfolding up down
-returns-else-d-lt0 c =
+returns-else-below c =
     let s = c.before.before in
-    let more = ltZ_false s.args.d _ (simp (read s) at c.if-d-lt0.false) in
+    let more = ltZ_false s.args.d _ (simp (read s) at c.if-below.false) in
     simp (read s, whole c.before, quot_floor s.args.d s.args.n (omega ints), to_z-of_z w32 (floor s.args.d s.args.n) (floored s))
