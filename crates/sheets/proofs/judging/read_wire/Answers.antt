@@ -1,7 +1,8 @@
 -- `sheets::judging::read_wire` meets its contract: the mark's fault stands before the range's. Assumes nothing.
 use mathlib.Core.Path.{◌≡◌, sym, ap, ◌∙◌}
+use mathlib.Core.Bool.{true, false}
 use native.Mathlib.Omega.{arith}
-use borrow.Author.Tests.{not-true, not-false}
+use borrow.Author.Rules.{rules}
 use Rattle.records.specs.Records.{marked, wire_place}
 use Rattle.records.specs.Answers.{reason_of}
 use Rattle.sheets.specs.Sheet.{sheet_format, sheet_of, wire_of, wire_fits}
@@ -29,12 +30,22 @@ in-range c =
 
 pub returns-then-not-right : goal.returns-then-not-right
 unfolding reason_of wire_fault
-returns-then-not-right c = simp (sym (told (goal.at.returns-then-not-right c).After-marked-right) ∙ not-true _ c.if-not-right.true-raw)
+returns-then-not-right c =
+    let wrong : c.marked-right.result ≡ false = search rules in
+    simp (sym (told (goal.at.returns-then-not-right c).After-marked-right) ∙ wrong)
 
 pub returns-then-not-fits : goal.returns-then-not-fits
 unfolding reason_of wire_fault
-returns-then-not-fits c = simp (sym (told (goal.at.returns-then-not-fits c).After-marked-right) ∙ not-false _ c.if-not-right.false-raw, sym (in-range (goal.at.returns-then-not-fits c).After-wire_fits-fits) ∙ not-true _ c.if-not-fits.true-raw)
+returns-then-not-fits c =
+    let at = goal.at.returns-then-not-fits c in
+    let right : c.marked-right.result ≡ true = search rules in
+    let out : c.wire_fits-fits.result ≡ false = search rules in
+    simp (sym (told at.After-marked-right) ∙ right, sym (in-range at.After-wire_fits-fits) ∙ out)
 
 pub returns : goal.returns
 unfolding wire_fault
-returns c = simp (sym (told (goal.at.returns c).After-marked-right) ∙ not-false _ c.if-not-right.false-raw, c.wire_of-wire.ensures, sym (in-range (goal.at.returns c).After-wire_fits-fits) ∙ not-false _ c.if-not-fits.false-raw)
+returns c =
+    let at = goal.at.returns c in
+    let right : c.marked-right.result ≡ true = search rules in
+    let fits : c.wire_fits-fits.result ≡ true = search rules in
+    simp (sym (told at.After-marked-right) ∙ right, c.wire_of-wire.ensures, sym (in-range at.After-wire_fits-fits) ∙ fits)
