@@ -1,5 +1,5 @@
 #!/usr/bin/env python3
-# Run once, after /opt/rattle/port/port.py, at the top of the repository: brings the repository's own definitions and lemmas, and the
+# Run once, after the kit's port.py, at the top of the repository: brings the repository's own definitions and lemmas, and the
 # fields of its records, to snake case (`half-turn` becomes `half_turn`). Names that the check makes (goals, steps) keep their hyphens, and
 # so do the library's. Prints the names that fall together in a file, and with --anyway
 # writes the files all the same (a definition may be named as the function that it is about, as `sum` always was).
