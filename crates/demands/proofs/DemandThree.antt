@@ -66,20 +66,20 @@ run_admitted b m hand lent = record {
   steps = λ t h. record { number_is = refl; memory_is = refl; output_is = refl };
 }
 
-module _ (b : List ℕ) (p : Plan) (is-p : plan_read b ≡ p) (fine : plan_fault b ≡ 0) (m : List ℕ) (room : size p ≤ length m) (hand lent : ℕ → List ℕ)
+module _ (b : List ℕ) (p : Plan) (is_p : plan_read b ≡ p) (fine : plan_fault b ≡ 0) (m : List ℕ) (room : size p ≤ length m) (hand lent : ℕ → List ℕ)
     (words : (t : ℕ) → channels ≤ length (hand t)) (outs : (t : ℕ) → length p.units ≤ length (lent t)) (r : Run) (admitted : Admitted b m hand lent r) where
   step_run : (t : ℕ) → t ≤ last_cycle → step_number b (run p m hand t) (hand t) (lent t) ≡ 0
   step_run t h =
-      step_fine b p is-p fine (run p m hand t) (hand t) (lent t) (omega (arith, length_run p m hand room t)) (words t) (outs t) (omega (arith, cycle_run p m hand t))
+      step_fine b p is_p fine (run p m hand t) (hand t) (lent t) (omega (arith, length_run p m hand room t)) (words t) (outs t) (omega (arith, cycle_run p m hand t))
 
   -- the calls' memory is the run's
   memory_is : (t : ℕ) → t ≤ suc last_cycle → r.memory t ≡ run p m hand t
   unfolding run
-  memory_is zero h = admitted.clears.memory_is ∙ clear_is b p is-p fine m room
+  memory_is zero h = admitted.clears.memory_is ∙ clear_is b p is_p fine m room
   memory_is (suc t) h =
       (admitted.steps t (omega arith)).memory_is
       ∙ ap (λ (z : List ℕ). step_memory b z (hand t) (lent t)) (memory_is t (omega arith))
-      ∙ step_is b p is-p fine (run p m hand t) (hand t) (lent t) (step_run t (omega arith))
+      ∙ step_is b p is_p fine (run p m hand t) (hand t) (lent t) (step_run t (omega arith))
 
   steps : (t : ℕ) → t ≤ last_cycle → r.number t ≡ 0
   steps t h = (admitted.steps t h).number_is ∙ ap (λ (z : List ℕ). step_number b z (hand t) (lent t)) (memory_is t (omega arith)) ∙ step_run t h
@@ -87,20 +87,20 @@ module _ (b : List ℕ) (p : Plan) (is-p : plan_read b ≡ p) (fine : plan_fault
   outputs : (t q : ℕ) → t ≤ last_cycle → q < length p.units → at (r.out t) q ≡ at (leaving p (run p m hand t)) q
   outputs t q h hq =
       ap (λ (z : List ℕ). at z q) (admitted.steps t h).output_is
-      ∙ output_is b p is-p fine (r.memory t) (hand t) (lent t) (sym (admitted.steps t h).number_is ∙ steps t h) q hq
+      ∙ output_is b p is_p fine (r.memory t) (hand t) (lent t) (sym (admitted.steps t h).number_is ∙ steps t h) q hq
       ∙ ap (λ (z : List ℕ). at (leaving p z) q) (memory_is t (omega arith))
 
   pub runs : (s : Sheet) → Sound s → Folds s p → (xs val : ℕ → ℕ → ℕ) → Values s xs val → Handed s p xs hand last_cycle → Runs s p val hand r
   runs s sound folds xs val vals handed =
       let lv = leaves s p sound folds val m room hand xs vals last_cycle handed in
-      let in-plan : (q : ℕ) → q < length s.units → q < length p.units = λ q h. omega (arith, folds.units) in
+      let in_plan : (q : ℕ) → q < length s.units → q < length p.units = λ q h. omega (arith, folds.units) in
       record {
-        clears = admitted.clears.number_is ∙ clear_fine b p is-p fine m room;
+        clears = admitted.clears.number_is ∙ clear_fine b p is_p fine m room;
         steps = steps;
         leaves = record {
-          words = λ x hx l h. outputs (s.fold * l + (node_of s x).slot + depth_of s x) (node_of s x).unit h (in-plan (node_of s x).unit (sound.on_unit x hx)) ∙ lv.words x hx l h;
-          idle = λ q hq v hv empty l h. outputs (s.fold * l + v + (unit_of s q).depth) q h (in-plan q hq) ∙ lv.idle q hq v hv empty l h;
-          early = λ q hq t h e. outputs t q h (in-plan q hq) ∙ lv.early q hq t h e;
+          words = λ x hx l h. outputs (s.fold * l + (node_of s x).slot + depth_of s x) (node_of s x).unit h (in_plan (node_of s x).unit (sound.on_unit x hx)) ∙ lv.words x hx l h;
+          idle = λ q hq v hv empty l h. outputs (s.fold * l + v + (unit_of s q).depth) q h (in_plan q hq) ∙ lv.idle q hq v hv empty l h;
+          early = λ q hq t h e. outputs t q h (in_plan q hq) ∙ lv.early q hq t h e;
         };
         begun = λ q hq i hi t h.
             ap (λ (z : List ℕ). place p z q i) (memory_is (t + suc i) h)

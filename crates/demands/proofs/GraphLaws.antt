@@ -19,7 +19,7 @@ use Rattle.demands.specs.Graph.{Values, along_wire, arriving, wire_into}
 abbrev pub Ordered : Sheet → (ℕ → ℕ → ℕ) → Type 0
 Ordered s after = (e : ℕ) → e < length s.wires → (j : ℕ) → (wire_of s e).delays ≤ j → after (wire_of s e).from (j - (wire_of s e).delays) < after (wire_of s e).to j
 
-module _ (s : Sheet) (nodes-from : (e : ℕ) → e < length s.wires → (wire_of s e).from < length s.nodes) (after : (ℕ → ℕ → ℕ)) (ord : Ordered s after) where
+module _ (s : Sheet) (nodes_from : (e : ℕ) → e < length s.wires → (wire_of s e).from < length s.nodes) (after : (ℕ → ℕ → ℕ)) (ord : Ordered s after) where
   -- two valuations that agree on what is before agree on what arrives
   arriving_same : (f g : ℕ → ℕ → ℕ) (x i j : ℕ) → ((y k : ℕ) → y < length s.nodes → after y k < after x j → f y k ≡ g y k) → arriving s f x i j ≡ arriving s g x i j
   unfolding wire_into
@@ -32,7 +32,7 @@ module _ (s : Sheet) (nodes-from : (e : ℕ) → e < length s.wires → (wire_of
           let to = eqb-true (wire_of s e).to x (and_split (eqb (wire_of s e).to x) (eqb (wire_of s e).input i) a.1).0 in
           elim (passed? (ltb j (wire_of s e).delays)) [
             | inl t ↦ rw t refl
-            | inr b ↦ rw b (h (wire_of s e).from (j - (wire_of s e).delays) (nodes-from e a.0)
+            | inr b ↦ rw b (h (wire_of s e).from (j - (wire_of s e).delays) (nodes_from e a.0)
                 (subst (λ (z : ℕ). after (wire_of s e).from (j - (wire_of s e).delays) < after z j) to (ord e a.0 j (ltb-false j (wire_of s e).delays b))))
           ]
 

@@ -61,12 +61,12 @@ module _ (b : List ℕ) (s : Head.Sheet) (f : Fine b s) (ok : Foldable (sheet_of
       let W = switch_records b s.wires in
       let lu = length_records unit_bytes 7 (λ a. refl) (plan_unit (sheet_of b) (starts_in b)) s.units in
       let lx = length_records node_bytes 9 (λ a. refl) (plan_node (sheet_of b) (starts_in b)) s.nodes in
-      let after-units : 9 + length U ≡ nodes = omega (arith, lu, ex) in
-      let after-nodes : 9 + length U + length X ≡ wires = omega (arith, lu, lx, ew) in
+      let after_units : 9 + length U ≡ nodes = omega (arith, lu, ex) in
+      let after_nodes : 9 + length U + length X ≡ wires = omega (arith, lu, lx, ew) in
       w ∙ rw (x, u, h, eu)
       (sym (
-      ap (λ (z : ℕ). laid (laid (laid (laid l 0 (head n k)) 9 U) z X) wires W) after-units))
-      ∙ sym (ap (λ (z : ℕ). laid (laid (laid (laid l 0 (head n k)) 9 U) (9 + length U) X) z W) after-nodes)
+      ap (λ (z : ℕ). laid (laid (laid (laid l 0 (head n k)) 9 U) z X) wires W) after_units))
+      ∙ sym (ap (λ (z : ℕ). laid (laid (laid (laid l 0 (head n k)) 9 U) (9 + length U) X) z W) after_nodes)
       ∙ sym (runs_laid l (head n k) U X W)
       ∙ ap (laid l 0) (runs n k en ek)
       ∙ laid_over l (plan_bytes (plan_of (sheet_of b))) (omega (arith, length_written b (passed_so b s f) ok))

@@ -177,7 +177,7 @@ module _ (g : Net) where
       let es = w.0 in
       let v = w.1 in
       let fall = f.2 in
-      let sum-es = w.4 in
+      let sum_es = w.4 in
       let long : suc k ≤ length es = elim (dec_le (length es) k) [
         | yes h ↦ let c = round_below g cl k u es v hu w.2 h in absurd (omega ints)
         | no h ↦ omega arith

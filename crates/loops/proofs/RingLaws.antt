@@ -96,9 +96,9 @@ module _ (g : Net) where
         let rest = drop a es in
         let ring = take m rest in
         let after = drop m rest in
-        let long-before : length before ≡ a = length-take-le a es (omega arith) in
+        let long_before : length before ≡ a = length-take-le a es (omega arith) in
         let long_rest : length rest ≡ length es - a = length-drop a es in
-        let long-ring : length ring ≡ m = length-take-le m rest (omega arith) in
+        let long_ring : length ring ≡ m = length-take-le m rest (omega arith) in
         let long_after : length after ≡ length rest - m = length-drop m rest in
         let at : (p : ℕ) → p < m → get_or ring p 0 ≡ get_or es (a + p) 0 = λ p k. get_or-take m rest p 0 k ∙ get_or-drop a es p 0 in
         let whole : es ≡ before ++ (ring ++ after) = sym (take-append-drop a es) ∙ ap (λ (l : List ℕ). before ++ l) (sym (take-append-drop m rest)) in

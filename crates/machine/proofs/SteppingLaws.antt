@@ -52,8 +52,8 @@ pub step_numbers : (b m c o : List ℕ) → (step_number b m c o ≤ 5) ⊎ ((7 
 unfolding step_number
 step_numbers b m c o =
     let first = plan_fault b then unless (room_test b m c o) 7 in
-    let in-time = not (eqb (at m 0) last_count) in
-    elim (then_one first (unless in-time 8)) [
+    let in_time = not (eqb (at m 0) last_count) in
+    elim (then_one first (unless in_time 8)) [
       | inl e ↦ elim (judged_then b (room_test b m c o)) [
         | inl l ↦ inl (subst (λ (z : ℕ). z ≤ 5) (sym e) l)
         | inr n ↦ elim n [
@@ -61,8 +61,8 @@ step_numbers b m c o =
           | inr s ↦ inr (subst (λ (z : ℕ). (7 ≤ z) × (z ≤ 9)) (sym (e ∙ s)) (omega arith, omega arith))
         ]
       ]
-      | inr e ↦ elim (passed? in-time) [
-        | inl t ↦ inl (subst (λ (z : ℕ). z ≤ 5) (sym (e ∙ unless_ok in-time 8 t)) (omega arith))
+      | inr e ↦ elim (passed? in_time) [
+        | inl t ↦ inl (subst (λ (z : ℕ). z ≤ 5) (sym (e ∙ unless_ok in_time 8 t)) (omega arith))
         | inr f ↦ inr (subst (λ (z : ℕ). (7 ≤ z) × (z ≤ 9)) (sym (e ∙ ap (λ (z : Bool). unless z 8) f)) (omega arith, omega arith))
       ]
     ]
@@ -154,13 +154,13 @@ step_rest b m c o = elim (ℕ_discrete (step_number b m c o) 0) [
 
 -- ---- calls on bytes that say a plan without fault
 
-module _ (b : List ℕ) (p : Plan) (is-p : plan_read b ≡ p) (fine : plan_fault b ≡ 0) where
+module _ (b : List ℕ) (p : Plan) (is_p : plan_read b ≡ p) (fine : plan_fault b ≡ 0) where
   pub clear_fine : (m : List ℕ) → size p ≤ length m → clear_number b m ≡ 0
   unfolding clear_number
-  clear_fine m h = then_join (plan_fault b) _ fine (unless_ok (leb (size (plan_read b)) (length m)) 7 (rw is-p (le-leb (size p) (length m) h)))
+  clear_fine m h = then_join (plan_fault b) _ fine (unless_ok (leb (size (plan_read b)) (length m)) 7 (rw is_p (le-leb (size p) (length m) h)))
 
   pub clear_is : (m : List ℕ) → size p ≤ length m → clear_memory b m ≡ cleared p m
-  clear_is m h = clear_does b m (clear_fine m h) ∙ ap (λ (p : Plan). cleared p m) is-p
+  clear_is m h = clear_does b m (clear_fine m h) ∙ ap (λ (p : Plan). cleared p m) is_p
 
   pub step_fine : (m c o : List ℕ) → size p ≤ length m → channels ≤ length c → length p.units ≤ length o → at m 0 < last_count → step_number b m c o ≡ 0
   unfolding step_number
@@ -168,16 +168,16 @@ module _ (b : List ℕ) (p : Plan) (is-p : plan_read b ≡ p) (fine : plan_fault
       then_join (plan_fault b then unless (room_test b m c o) 7) _
       (then_join (plan_fault b) _ fine
       (unless_ok (room_test b m c o) 7
-      (rw is-p
+      (rw is_p
       (and_join (leb (size p) (length m) && leb channels (length c)) (leb (length p.units) (length o))
       (and_join (leb (size p) (length m)) (leb channels (length c)) (le-leb (size p) (length m) hm) (le-leb channels (length c) hc))
       (le-leb (length p.units) (length o) ho)))))
       (unless_ok (not (eqb (at m 0) last_count)) 8 (ap not (ne_eqb (at m 0) last_count (λ e. omega arith))))
 
   pub step_is : (m c o : List ℕ) → step_number b m c o ≡ 0 → step_memory b m c o ≡ stepped p m c
-  step_is m c o h = (step_does b m c o h).0 ∙ ap (λ (p : Plan). stepped p m c) is-p
+  step_is m c o h = (step_does b m c o h).0 ∙ ap (λ (p : Plan). stepped p m c) is_p
 
   pub output_is : (m c o : List ℕ) → step_number b m c o ≡ 0 → (q : ℕ) → q < length p.units → at (step_output b m c o) q ≡ at (leaving p m) q
   output_is m c o h q hq =
-      ap (λ (l : List ℕ). at l q) ((step_does b m c o h).1 ∙ ap (λ (p : Plan). over (leaving p m) o) is-p)
+      ap (λ (l : List ℕ). at l q) ((step_does b m c o h).1 ∙ ap (λ (p : Plan). over (leaving p m) o) is_p)
       ∙ get_or-append (leaving p m) (drop (length (leaving p m)) o) 0 q (omega (arith, length_leaving p m))

@@ -27,7 +27,7 @@ module _ (b : List ℕ) (p : Head.Plan) (t : Taken b p) where
       let next : base pl (q + 1) ≡ base pl q + places pl q = ap (base pl) (add-one q) in (
         omega (arith, next, places_so b p t q h),
         λ k hk. elim (eq-or-lt_of_le hk) [
-          | inl same ↦ let k-q : k ≡ q = omega arith in rw k-q (get_or-set_same l q size 0 (omega (arith, few_units b p t)) ∙ s)
+          | inl same ↦ let k_q : k ≡ q = omega arith in rw k_q (get_or-set_same l q size 0 (omega (arith, few_units b p t)) ∙ s)
           | inr less ↦ get_or-set_other l q k size 0 (λ same. omega arith) ∙ before k (omega arith)
         ],
       )

@@ -83,13 +83,13 @@ module _ (p : Plan) (m r : List ℕ) (room : size p ≤ length m) where
   pub moved_more : (q : ℕ) → q < length p.units → (now : List ℕ) (from n x : ℕ) → now ≡ moved_to p m r q → from ≡ suc (base p q) → n ≡ places p q → x ≡ at r q →
       shifted now from n x ≡ moved_to p m r (q + 1)
   unfolding joined base
-  moved_more q h now from n x is at-q long new =
+  moved_more q h now from n x is at_q long new =
       let f = moved_by p m r in
       let front = at m 0 ∷ joined q f in
       let rest = drop (suc (base p q)) m in
-      let long-front : length front ≡ from = ap suc (length_blocks p f length_moved_by q (omega arith)) ∙ sym at-q in
+      let long_front : length front ≡ from = ap suc (length_blocks p f length_moved_by q (omega arith)) ∙ sym at_q in
       let next : drop n rest ≡ drop (suc (base p q + places p q)) m = drop-drop n (suc (base p q)) m ∙ ap (λ (k : ℕ). drop k m) (let e : suc (base p q) + n ≡ suc (base p q + places p q) = omega arith in e) in
-      ap (λ (l : List ℕ). shifted l from n x) is ∙ shifted_at front rest from n x long-front
+      ap (λ (l : List ℕ). shifted l from n x) is ∙ shifted_at front rest from n x long_front
       ∙ ap₂ (λ (a b : List ℕ). at m 0 ∷ (joined q f ++ (a ++ b))) (ap₂ (λ (n x : ℕ). take n (x ∷ rest)) long new) next
       ∙ ap (λ (l : List ℕ). at m 0 ∷ l) (sym (append_assoc (joined q f) (f q) (drop (suc (base p q + places p q)) m)))
       ∙ ap (moved_to p m r) (sym (add-one q))

@@ -120,11 +120,11 @@ module _ (p : Plan) where
         let n = (node_in p i).node in
         let o = node_place plan_format (plan_bytes p) i in
         let k = residue n.k 65536 in
-        let two-k : two (plan_bytes p) (o + 5) ≡ k =
+        let two_k : two (plan_bytes p) (o + 5) ≡ k =
         field_back k (o + 5) (k_below n.k) (node_byte i 5 h (lit< tt)) (next_byte o 5 6 refl ∙ node_byte i 6 h (lit< tt)) in
         let start : two (plan_bytes p) (o + 7) ≡ (node_in p i).start =
         field_back (node_in p i).start (o + 7) (narrow.start i h) (node_byte i 7 h (lit< tt)) (next_byte o 7 8 refl ∙ node_byte i 8 h (lit< tt)) in
-        let gain : signed 32768 (two (plan_bytes p) (o + 5)) ≡ n.k = ap (signed 32768) two-k ∙ signed_residue 32768 n.k (narrow.k i h) in
+        let gain : signed 32768 (two (plan_bytes p) (o + 5)) ≡ n.k = ap (signed 32768) two_k ∙ signed_residue 32768 n.k (narrow.k i h) in
         λ z. record {
           node = record { unit = node_byte i 2 h (lit< tt) z; slot = node_byte i 3 h (lit< tt) z; op = node_byte i 4 h (lit< tt) z; k = gain z };
           start = start z;

@@ -24,14 +24,14 @@ module _ (f : Format) (b : List ℕ) where
 
   module _
       (fold u n w whole : ℕ) (us ns ws : Run) (ef : fold ≡ fold_in b) (eu : u ≡ units_in b) (en : n ≡ nodes_in b) (ew : w ≡ wires_in b)
-      (ws-is : ws ≡ wire_run f u n w) (whole_is : whole ≡ place ws ws.count) (us-is : us ≡ unit_run f u) (ns-is : ns ≡ node_run f u n)
+      (ws_is : ws ≡ wire_run f u n w) (whole_is : whole ≡ place ws ws.count) (us_is : us ≡ unit_run f u) (ns_is : ns ≡ node_run f u n)
     where
       pub runs_inside : unit_part ≤ f.unit_length → node_part ≤ f.node_length → Inside unit_part us whole × Inside node_part ns whole
-      runs_inside h k = rw (whole_is, ws-is, us-is, ns-is) (units_inside f u n w unit_part h, nodes_inside f u n w node_part k)
+      runs_inside h k = rw (whole_is, ws_is, us_is, ns_is) (units_inside f u n w unit_part h, nodes_inside f u n w node_part k)
 
       pub front_said : parts_fault b whole fold us ns ≡ front_fault f b
       unfolding front_fault
-      front_said = rw (whole_is, ws-is, us-is, ns-is, ef, eu, en, ew) refl
+      front_said = rw (whole_is, ws_is, us_is, ns_is, ef, eu, en, ew) refl
 
   -- ---- the parts of a reading
 

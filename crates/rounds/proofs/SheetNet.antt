@@ -18,7 +18,7 @@ use Rattle.folding.proofs.SizeLaws.{small_of, bound_low, bound_high}
 use Rattle.rounds.specs.Rounds.{bytes_net, Wired, Moderate}
 
 module _ (b : List ℕ) (passed : Passed b) (bounds : List Iterations)
-    (bounds-are : (e : ℕ) → e < wires_in b → iterations_at bounds e ≡ bound (sheet_of b) e) where
+    (bounds_are : (e : ℕ) → e < wires_in b → iterations_at bounds e ≡ bound (sheet_of b) e) where
   -- where the wires' records begin
   abbrev pub wires_at : ℕ
   wires_at = node_place sheet_format b (nodes_in b)
@@ -35,7 +35,7 @@ module _ (b : List ℕ) (passed : Passed b) (bounds : List Iterations)
     wires = sym (wires_is b);
     from = λ e h. ap (λ (w : Wire). w.from) (sym (wire_read b e (in_sheet e h)));
     to = λ e h. ap (λ (w : Wire). w.to) (sym (wire_read b e (in_sheet e h)));
-    bound = λ e h. bounds-are e h;
+    bound = λ e h. bounds_are e h;
   }
 
   pub sheet_wired : Wired b wires_at (nodes_in b) (wires_in b)
@@ -50,6 +50,6 @@ module _ (b : List ℕ) (passed : Passed b) (bounds : List Iterations)
 
   pub sheet_moderate : Moderate of_sheet
   sheet_moderate = record {
-    low = λ e h. rw (bounds-are e h) (bound_low (sheet_of b) (sound b passed) (small_of b passed) e (in_sheet e h));
-    high = λ e h. rw (bounds-are e h) (bound_high (sheet_of b) (sound b passed) (small_of b passed) e (in_sheet e h));
+    low = λ e h. rw (bounds_are e h) (bound_low (sheet_of b) (sound b passed) (small_of b passed) e (in_sheet e h));
+    high = λ e h. rw (bounds_are e h) (bound_high (sheet_of b) (sound b passed) (small_of b passed) e (in_sheet e h));
   }

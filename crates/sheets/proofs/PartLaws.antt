@@ -33,17 +33,17 @@ module _ (b : List ℕ) (s : Header) (h : HeaderSaid b s) where
       rw e (omega (arith, c.units_most, c.nodes_most, c.wires_most, (said_units b s h.said), (said_nodes b s h.said), (said_wires b s h.said)))
 
   module _
-      (whole : ℕ) (us ns ws : Run) (ws-is : ws ≡ wire_run sheet_format s.units s.nodes s.wires) (whole_is : whole ≡ place ws ws.count)
-      (us-is : us ≡ unit_run sheet_format s.units) (ns-is : ns ≡ node_run sheet_format s.units s.nodes)
+      (whole : ℕ) (us ns ws : Run) (ws_is : ws ≡ wire_run sheet_format s.units s.nodes s.wires) (whole_is : whole ≡ place ws ws.count)
+      (us_is : us ≡ unit_run sheet_format s.units) (ns_is : ns ≡ node_run sheet_format s.units s.nodes)
     where
       pub sheet_inside : Inside unit_part us whole × Inside node_part ns whole
       sheet_inside =
-          runs_inside sheet_format b s.fold s.units s.nodes s.wires whole us ns ws (said_fold b s h.said) (said_units b s h.said) (said_nodes b s h.said) (said_wires b s h.said) ws-is whole_is us-is ns-is (omega arith)
+          runs_inside sheet_format b s.fold s.units s.nodes s.wires whole us ns ws (said_fold b s h.said) (said_units b s h.said) (said_nodes b s h.said) (said_wires b s h.said) ws_is whole_is us_is ns_is (omega arith)
           (omega arith)
 
       pub sheet_front : parts_fault b whole s.fold us ns ≡ front_fault sheet_format b
       sheet_front =
-          front_said sheet_format b s.fold s.units s.nodes s.wires whole us ns ws (said_fold b s h.said) (said_units b s h.said) (said_nodes b s h.said) (said_wires b s h.said) ws-is whole_is us-is ns-is
+          front_said sheet_format b s.fold s.units s.nodes s.wires whole us ns ws (said_fold b s h.said) (said_units b s h.said) (said_nodes b s h.said) (said_wires b s h.said) ws_is whole_is us_is ns_is
 
   pub sheet_whole : front_fault sheet_format b ≡ 0 → Whole b s
   sheet_whole z = record { said = h.said; long = front_whole sheet_format b z }

@@ -12,8 +12,8 @@ use borrow.Author.Rules.{rules}
 use Rattle.cycle.proofs.begun_by.Goals as goal
 use Rattle.cycle.proofs.begun_by.Goals.{Start}
 
-k-held : (c : Start) → SFits w16 c.args.n.k
-k-held c = search rules
+k_held : (c : Start) → SFits w16 c.args.n.k
+k_held c = search rules
 
 pub start_at-requires : goal.start_at-requires
 start_at-requires c = omega (arith, c.node_place.ensures, node_inside c.args.plan.now c.args.p (whole_taken c.requires.taken) c.args.x c.requires.x_lt_nodes)
@@ -32,4 +32,4 @@ pub returns-else-ahead : goal.returns-else-ahead
 returns-else-ahead c =
     let flag = below_start c.args.plan.now c.args.p c.requires.taken c.args.x c.requires.x_lt_nodes c.args.t c.node_place.result c.start_at.result.0 c.ahead.result
     c.node_place.ensures c.start_at.ensures c.ahead.ensures in
-    c.value.ensures ∙ rw (sym flag ∙ c.if-ahead.false, to_z-of_z w16 c.args.n.k (k-held (goal.at.returns-else-ahead c).Start)) refl
+    c.value.ensures ∙ rw (sym flag ∙ c.if-ahead.false, to_z-of_z w16 c.args.n.k (k_held (goal.at.returns-else-ahead c).Start)) refl

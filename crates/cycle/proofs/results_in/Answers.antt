@@ -57,8 +57,8 @@ loop-x-preserved c =
           let few : node_unit pl l.x < 8 = unit_few c.args.plan.now c.args.p c.requires.taken l.x more (node_in pl l.x).node refl in
           let is = given_is c.args.plan.now c.args.p c.requires.taken l.x c.args.t c.args.samples.now c.args.words n.result w.sample_of.result w.begun_by.result n.ensures w.sample_of.ensures w.begun_by.ensures in
           let next = gathered_in chosen (node_unit pl) brings 8 l.x l.results l.invariant.2 l.invariant.1 (slot.0 w.if-n-slot.true) few w.begun_by.result is in
-          let now-is = w.results-is ∙ ap (λ (k : ℕ). set l.results k w.begun_by.result) on in
-          (omega arith, ap length now-is ∙ simp length-set l.invariant.1, subst (Gathered (l.x + 1) chosen (node_unit pl) brings 8) (sym now-is) next)
+          let now_is = w.results-is ∙ ap (λ (k : ℕ). set l.results k w.begun_by.result) on in
+          (omega arith, ap length now_is ∙ simp length-set l.invariant.1, subst (Gathered (l.x + 1) chosen (node_unit pl) brings 8) (sym now_is) next)
       | else-n-slot w ↦
           let next = gathered_past chosen (node_unit pl) brings 8 l.x l.results l.invariant.2 (slot.1 w.if-n-slot.false) in
           (omega arith, ap length w.results-is ∙ l.invariant.1, subst (Gathered (l.x + 1) chosen (node_unit pl) brings 8) (sym w.results-is) next)

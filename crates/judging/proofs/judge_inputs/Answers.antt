@@ -40,13 +40,13 @@ all_fed c =
     fed_all _ _ c.requires.held c.args.occupied.now c.requires.occupied (record { masks = c.args.masks.now; twice = c.args.twice }) c.requires.fed_of c.unit_run.result c.unit_run.ensures c.units_fed.result c.units_fed.ensures
     c.if-twice.false (not-false _ c.if-not-units_fed.false-raw)
 
-figures-are : (c : After-figures_right) → figures_fault (plan_read c.args.b.now) ≡ unless c.figures_right.result 9
+figures_are : (c : After-figures_right) → figures_fault (plan_read c.args.b.now) ≡ unless c.figures_right.result 9
 unfolding figures_fault
-figures-are c = ap (λ (t : Bool). unless t 9) (sym c.figures_right.ensures)
+figures_are c = ap (λ (t : Bool). unless t 9) (sym c.figures_right.ensures)
 
 pub returns-then-not-figures_right : goal.returns-then-not-figures_right
 unfolding reason_of
-returns-then-not-figures_right c = rw (all_fed (goal.at.returns-then-not-figures_right c).After-figures_right, figures-are (goal.at.returns-then-not-figures_right c).After-figures_right, not-true c.figures_right.result c.if-not-figures_right.true-raw) refl
+returns-then-not-figures_right c = rw (all_fed (goal.at.returns-then-not-figures_right c).After-figures_right, figures_are (goal.at.returns-then-not-figures_right c).After-figures_right, not-true c.figures_right.result c.if-not-figures_right.true-raw) refl
 
 pub returns : goal.returns
-returns c = rw (all_fed (goal.at.returns c).After-figures_right, figures-are (goal.at.returns c).After-figures_right, not-false c.figures_right.result c.if-not-figures_right.false-raw) refl
+returns c = rw (all_fed (goal.at.returns c).After-figures_right, figures_are (goal.at.returns c).After-figures_right, not-false c.figures_right.result c.if-not-figures_right.false-raw) refl

@@ -14,12 +14,12 @@ use borrow.Author.Rules.{rules}
 use Rattle.judging.proofs.judge_rest.Goals as goal
 use Rattle.judging.proofs.judge_rest.Goals.{After-join_switches-joined, After-slots_of-slots, In-Passed}
 
-occupied-by : (c : After-slots_of-slots) → Occupied (plan_read c.args.b.now) c.slots_of-slots.result.occupied
-occupied-by c = slots_occupied _ _ c.requires.whole c.slots_of-slots.result c.slots_of-slots.ensures (search rules)
+occupied_by : (c : After-slots_of-slots) → Occupied (plan_read c.args.b.now) c.slots_of-slots.result.occupied
+occupied_by c = slots_occupied _ _ c.requires.whole c.slots_of-slots.result c.slots_of-slots.ensures (search rules)
 
 pub join_switches-joined-requires : goal.join_switches-joined-requires
 join_switches-joined-requires c =
-    record { fronted = c.requires; occupied = occupied-by (goal.at.join_switches-joined-requires c).After-slots_of-slots }
+    record { fronted = c.requires; occupied = occupied_by (goal.at.join_switches-joined-requires c).After-slots_of-slots }
 
 pub returns-in_default : goal.returns-in_default
 returns-in_default c =
@@ -44,7 +44,7 @@ sixteen c = search rules
 pub judge_inputs-requires : goal.judge_inputs-requires
 judge_inputs-requires c =
     let joins = c.join_switches-joined.ensures.joins c.in-Passed.is in
-    record { held = held _ _ c.requires (clear (goal.at.judge_inputs-requires c).In-Passed); occupied = occupied-by (goal.at.judge_inputs-requires c).After-slots_of-slots; fed_of = joins.fed_so; masks_len = sixteen (goal.at.judge_inputs-requires c).After-join_switches-joined; taps_of = joins.taps_so }
+    record { held = held _ _ c.requires (clear (goal.at.judge_inputs-requires c).In-Passed); occupied = occupied_by (goal.at.judge_inputs-requires c).After-slots_of-slots; fed_of = joins.fed_so; masks_len = sixteen (goal.at.judge_inputs-requires c).After-join_switches-joined; taps_of = joins.taps_so }
 
 pub returns : goal.returns
 returns c = rw (clear (goal.at.returns c).In-Passed, clash_is (goal.at.returns c).In-Passed, c.if-slots.false) c.judge_inputs.ensures

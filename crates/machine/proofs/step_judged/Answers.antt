@@ -43,8 +43,8 @@ ready : (c : Else-memory) → size (plan_read c.args.plan.now) ≤ length c.args
 ready c r = record { taken = c.requires; lines_so = c.lines_of-lines.ensures.at; eight = search rules; room = r }
 
 -- t has not reached its last number
-in-time : (c : Else-memory) → at c.args.memory.now 0 < last_count
-in-time c = omega (arith, c.if-memory.false, c.slice_known-3-1.given 0)
+in_time : (c : Else-memory) → at c.args.memory.now 0 < last_count
+in_time c = omega (arith, c.if-memory.false, c.slice_known-3-1.given 0)
 
 pub results-words-requires : goal.results-words-requires
 results-words-requires c =
@@ -60,9 +60,9 @@ eight c = search rules
 
 pub advance-requires : goal.advance-requires
 advance-requires c =
-    record { ready = ready (goal.at.advance-requires c).Else-memory (room (goal.at.advance-requires c).Else-out-p).0; memory_bound = omega (arith, in-time (goal.at.advance-requires c).Else-memory); units_in_bounds = omega (arith, eight (goal.at.advance-requires c).After-results-words, few_units c.args.plan.now c.args.p c.requires) }
+    record { ready = ready (goal.at.advance-requires c).Else-memory (room (goal.at.advance-requires c).Else-out-p).0; memory_bound = omega (arith, in_time (goal.at.advance-requires c).Else-memory); units_in_bounds = omega (arith, eight (goal.at.advance-requires c).After-results-words, few_units c.args.plan.now c.args.p c.requires) }
 
 pub returns : goal.returns
 returns c =
     let r = room (goal.at.returns c).Else-out-p in
-    step_done _ _ _ _ _ c.requires r.0 r.1 r.2 (in-time (goal.at.returns c).Else-memory) c.results-words.result _ _ c.results-words.ensures c.advance.ensures c.leave.ensures
+    step_done _ _ _ _ _ c.requires r.0 r.1 r.2 (in_time (goal.at.returns c).Else-memory) c.results-words.result _ _ c.results-words.ensures c.advance.ensures c.leave.ensures

@@ -28,14 +28,14 @@ places_at-n-requires c = omega (arith, c.unit_place.ensures, unit_inside c.args.
 pub bounds-results-q : goal.bounds-results-q
 bounds-results-q c = omega (arith, c.requires.units_in_bounds, c.loop-q-test.true)
 
-places-are : (c : After-places_at-n) → c.places_at-n.result ≡ places (plan_read c.args.plan.now) c.loop-q.q
-places-are c =
+places_are : (c : After-places_at-n) → c.places_at-n.result ≡ places (plan_read c.args.plan.now) c.loop-q.q
+places_are c =
     c.places_at-n.ensures.0 ∙ rw c.unit_place.ensures (sym (places_so c.args.plan.now c.args.p c.requires.ready.taken c.loop-q.q c.loop-q-test.true))
 
 pub shift-requires : goal.shift-requires
 shift-requires c =
     let l = c.loop-q in
-    let inside = line_inside c.args.plan.now c.args.p c.requires.ready.taken c.args.lines.now c.requires.ready.lines_so l.q c.places_at-n.result c.loop-q-test.true (places-are (goal.at.shift-requires c).After-places_at-n) in
+    let inside = line_inside c.args.plan.now c.args.p c.requires.ready.taken c.args.lines.now c.requires.ready.lines_so l.q c.places_at-n.result c.loop-q-test.true (places_are (goal.at.shift-requires c).After-places_at-n) in
     (inside.0, omega (arith, inside.1, c.requires.ready.room, l.invariant.2))
 
 pub loop-q-preserved : goal.loop-q-preserved
@@ -43,7 +43,7 @@ loop-q-preserved c =
     let l = c.loop-q in
     let more = moved_more (plan_read c.args.plan.now) c.args.memory.now c.args.results.now c.requires.ready.room l.q (omega (arith, c.loop-q-test.true, units_so c.args.plan.now c.args.p (whole_taken c.requires.ready.taken)))
     l.memory (get_or c.args.lines.now l.q 0) c.places_at-n.result (get_or c.args.results.now l.q 0) l.invariant.1
-    (c.requires.ready.lines_so l.q (omega (arith, c.loop-q-test.true, units_so c.args.plan.now c.args.p (whole_taken c.requires.ready.taken)))) (places-are (goal.at.loop-q-preserved c).After-places_at-n) refl in
+    (c.requires.ready.lines_so l.q (omega (arith, c.loop-q-test.true, units_so c.args.plan.now c.args.p (whole_taken c.requires.ready.taken)))) (places_are (goal.at.loop-q-preserved c).After-places_at-n) refl in
     (omega (arith, c.loop-q-test.true), c.shift.ensures ∙ more, c.shift.auto.memory ∙ l.invariant.2)
 
 pub bounds-memory-0 : goal.bounds-memory-0

@@ -17,10 +17,10 @@ returns-then-units-q c = simp (le-ltb _ _ c.if-units-q.true)
 pub unit_in-unit-requires : goal.unit_in-unit-requires
 unit_in-unit-requires c = in_run unit_part _ _ c.args.n.unit c.requires c.if-units-q.false
 
-k-held : (c : Start) → SFits w16 c.args.n.k
-k-held c = search rules
+k_held : (c : Start) → SFits w16 c.args.n.k
+k_held c = search rules
 
 pub returns : goal.returns
 returns c =
-    let k = c.k_fits.ensures ∙ ap (k_fits c.args.n.op) (to_z-of_z w16 c.args.n.k (k-held (goal.at.returns c).Start)) in
+    let k = c.k_fits.ensures ∙ ap (k_fits c.args.n.op) (to_z-of_z w16 c.args.n.k (k_held (goal.at.returns c).Start)) in
     simp (lt-ltb _ _ c.if-units-q.false, c.unit_in-unit.ensures, c.kind_of.ensures, k)

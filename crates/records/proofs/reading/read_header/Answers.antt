@@ -22,13 +22,13 @@ pub returns-then-not-b-first : goal.returns-then-not-b-first
 unfolding reason_of header_answer
 returns-then-not-b-first c = simp (le-leb _ _ c.if-b-size.false, wrong c)
 
-in-range : (c : After-fits) → c.fits.result ≡ counts_fit c.args.b.now
-in-range c = c.fits.ensures ∙ ap header_fits c.header_in-header.ensures
+in_range : (c : After-fits) → c.fits.result ≡ counts_fit c.args.b.now
+in_range c = c.fits.ensures ∙ ap header_fits c.header_in-header.ensures
 
 pub returns-then-fits : goal.returns-then-fits
 unfolding header_answer
-returns-then-fits c = simp (le-leb _ _ c.if-b-size.false, right (goal.at.returns-then-fits c).Else-not-b-first, c.header_in-header.ensures, sym (in-range (goal.at.returns-then-fits c).After-fits) ∙ c.if-fits.true)
+returns-then-fits c = simp (le-leb _ _ c.if-b-size.false, right (goal.at.returns-then-fits c).Else-not-b-first, c.header_in-header.ensures, sym (in_range (goal.at.returns-then-fits c).After-fits) ∙ c.if-fits.true)
 
 pub returns-else-fits : goal.returns-else-fits
 unfolding reason_of header_answer
-returns-else-fits c = simp (le-leb _ _ c.if-b-size.false, right (goal.at.returns-else-fits c).Else-not-b-first, sym (in-range (goal.at.returns-else-fits c).After-fits) ∙ c.if-fits.false)
+returns-else-fits c = simp (le-leb _ _ c.if-b-size.false, right (goal.at.returns-else-fits c).Else-not-b-first, sym (in_range (goal.at.returns-else-fits c).After-fits) ∙ c.if-fits.false)

@@ -6,10 +6,10 @@ use Rattle.records.specs.Answers.{reason_of, units_in_run, nodes_in_run, node_fa
 use Rattle.records.proofs.reading.read_node.Goals as goal
 use Rattle.records.proofs.reading.read_node.Goals.{After-node_fits-fits}
 
-in-range : (c : After-node_fits-fits) →
+in_range : (c : After-node_fits-fits) →
     let a = c.args in
     c.node_fits-fits.result ≡ node_fits a.fold a.units.count (units_in_run a.b.now a.units) (nodes_in_run a.b.now a.nodes a.i)
-in-range c =
+in_range c =
     let a = c.args in
     c.node_fits-fits.ensures ∙ ap (node_fits a.fold a.units.count (units_in_run a.b.now a.units)) c.node_in-node.ensures
 
@@ -19,8 +19,8 @@ returns-then-not-right c = simp (sym c.marked-right.ensures ∙ not-true _ c.if-
 
 pub returns-then-not-fits : goal.returns-then-not-fits
 unfolding reason_of node_fault
-returns-then-not-fits c = simp (sym c.marked-right.ensures ∙ not-false _ c.if-not-right.false-raw, sym (in-range (goal.at.returns-then-not-fits c).After-node_fits-fits) ∙ not-true _ c.if-not-fits.true-raw)
+returns-then-not-fits c = simp (sym c.marked-right.ensures ∙ not-false _ c.if-not-right.false-raw, sym (in_range (goal.at.returns-then-not-fits c).After-node_fits-fits) ∙ not-true _ c.if-not-fits.true-raw)
 
 pub returns : goal.returns
 unfolding node_fault
-returns c = simp (sym c.marked-right.ensures ∙ not-false _ c.if-not-right.false-raw, c.node_in-node.ensures, sym (in-range (goal.at.returns c).After-node_fits-fits) ∙ not-false _ c.if-not-fits.false-raw)
+returns c = simp (sym c.marked-right.ensures ∙ not-false _ c.if-not-right.false-raw, c.node_in-node.ensures, sym (in_range (goal.at.returns c).After-node_fits-fits) ∙ not-false _ c.if-not-fits.false-raw)

@@ -43,12 +43,12 @@ free : (c : Else-slots) →
     clashes (length (sheet_of c.args.b.now).nodes) (node_of (sheet_of c.args.b.now)) ≡ false
 free c is = is ∙ c.if-slots.false
 
-fed-is : (c : After-units_fed) →
+fed_is : (c : After-units_fed) →
     let b = c.args.b.now in
     clashes (length (sheet_of b).nodes) (node_of (sheet_of b)) ≡ false →
     (c.units_fed.result && not c.fed_of-fed.result.twice)
     ≡ fed_once (length (sheet_of b).nodes) (node_of (sheet_of b)) (length (sheet_of b).wires) (feeds (sheet_of b))
-fed-is c none =
+fed_is c none =
     ap (λ (u : Bool). u && not c.fed_of-fed.result.twice) c.units_fed.ensures
     ∙ fed_by_masks c.args.b.now c.args.sheet c.requires none c.slots_of-slots.result c.fed_of-fed.result c.unit_run.result
     c.unit_run.ensures c.slots_of-slots.ensures c.fed_of-fed.ensures
@@ -58,10 +58,10 @@ unfolding reason_of
 returns-then-fed-units_fed c =
     let at = goal.at.returns-then-fed-units_fed c in
     let none = free at.Else-slots (clash_is at.After-slots_of-slots) in
-    rw (none, sym (fed-is at.After-units_fed none) ∙ masks_refuse c.fed_of-fed.result.twice c.units_fed.result c.if-fed-units_fed.true)
+    rw (none, sym (fed_is at.After-units_fed none) ∙ masks_refuse c.fed_of-fed.result.twice c.units_fed.result c.if-fed-units_fed.true)
 
 pub returns : goal.returns
 returns c =
     let at = goal.at.returns c in
     let none = free at.Else-slots (clash_is at.After-slots_of-slots) in
-    rw (none, sym (fed-is at.After-units_fed none) ∙ masks_pass c.fed_of-fed.result.twice c.units_fed.result c.if-fed-units_fed.false)
+    rw (none, sym (fed_is at.After-units_fed none) ∙ masks_pass c.fed_of-fed.result.twice c.units_fed.result c.if-fed-units_fed.false)

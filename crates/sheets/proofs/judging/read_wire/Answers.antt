@@ -21,10 +21,10 @@ told : (c : After-marked-right) →
 told c =
     c.marked-right.ensures ∙ wire_marked _ _ c.requires.whole c.wire_run.result c.wire_run.ensures c.args.e
 
-in-range : (c : After-wire_fits-fits) →
+in_range : (c : After-wire_fits-fits) →
     let a = c.args in
     c.wire_fits-fits.result ≡ wire_fits (sheet_of a.b.now) (wire_of (sheet_of a.b.now) a.e)
-in-range c =
+in_range c =
     let a = c.args in
     c.wire_fits-fits.ensures ∙ ap (wire_fits (sheet_of a.b.now)) c.wire_of-wire.ensures
 
@@ -40,7 +40,7 @@ returns-then-not-fits c =
     let at = goal.at.returns-then-not-fits c in
     let right : c.marked-right.result ≡ true = search rules in
     let out : c.wire_fits-fits.result ≡ false = search rules in
-    simp (sym (told at.After-marked-right) ∙ right, sym (in-range at.After-wire_fits-fits) ∙ out)
+    simp (sym (told at.After-marked-right) ∙ right, sym (in_range at.After-wire_fits-fits) ∙ out)
 
 pub returns : goal.returns
 unfolding wire_fault
@@ -48,4 +48,4 @@ returns c =
     let at = goal.at.returns c in
     let right : c.marked-right.result ≡ true = search rules in
     let fits : c.wire_fits-fits.result ≡ true = search rules in
-    simp (sym (told at.After-marked-right) ∙ right, c.wire_of-wire.ensures, sym (in-range at.After-wire_fits-fits) ∙ fits)
+    simp (sym (told at.After-marked-right) ∙ right, c.wire_of-wire.ensures, sym (in_range at.After-wire_fits-fits) ∙ fits)

@@ -22,11 +22,11 @@ reads c = c.args.fold * c.args.delays + c.args.to
 abbrev leaves : Start → ℕ
 leaves c = c.args.depth + c.args.from
 
-whole-reads : (c : Start) → to_z w32 (reads c) ≡ pos (reads c)
-whole-reads c = to_z_pos w32 (reads c) (omega (arith, rounds c))
+whole_reads : (c : Start) → to_z w32 (reads c) ≡ pos (reads c)
+whole_reads c = to_z_pos w32 (reads c) (omega (arith, rounds c))
 
-whole-leaves : (c : Start) → to_z w32 (leaves c) ≡ pos (leaves c)
-whole-leaves c = to_z_pos w32 (leaves c) (omega arith)
+whole_leaves : (c : Start) → to_z w32 (leaves c) ≡ pos (leaves c)
+whole_leaves c = to_z_pos w32 (leaves c) (omega arith)
 
 wait : (c : Start) → SFits w32 (pos (reads c) -ℤ pos (leaves c))
 wait c = gap_fits (reads c) (leaves c) (omega (arith, rounds c)) (omega arith)
@@ -41,7 +41,7 @@ pub overflow_cast-wait : goal.overflow_cast-wait
 overflow_cast-wait c = omega (arith, rounds c)
 
 pub overflow_sub-wait : goal.overflow_sub-wait
-overflow_sub-wait c = simp (whole-reads c, whole-leaves c) (wait c)
+overflow_sub-wait c = simp (whole_reads c, whole_leaves c) (wait c)
 
 pub returns : goal.returns
-returns c = simp (whole-reads c, whole-leaves c, to_z-of_z w32 (pos (reads c) -ℤ pos (leaves c)) (wait c))
+returns c = simp (whole_reads c, whole_leaves c, to_z-of_z w32 (pos (reads c) -ℤ pos (leaves c)) (wait c))
