@@ -13,23 +13,17 @@ fn print(rt: &impl Print, text: &[u8]) -> io::Result<()> {
     rt.write_all(text)
 }
 
-fn print_byte(rt: &impl Print, b: u8) -> io::Result<()> {
-    print!(rt; "{b}")
-}
-
-// A bound does not give its number out: printed are its sign and the low byte of its distance from 0.
+// A bound does not give its number out: printed are its sign and its distance from 0, which two bytes hold.
 fn print_bound(rt: &impl Print, bound: Iterations) -> io::Result<()>
     requires { SFits w32 (pos 0 -ℤ bound.0) }
 {
-    let zero = Iterations::zero();
-    if bound.below(zero) {
-        print(rt, b"-")?;
-        let distance = zero.minus(bound);
-        print_byte(rt, distance.low())?;
+    if bound < Iterations::ZERO {
+        let distance = (Iterations::ZERO - bound).field();
+        println!(rt; "-{distance}")
     } else {
-        print_byte(rt, bound.low())?;
+        let distance = bound.field();
+        println!(rt; "{distance}")
     }
-    print(rt, b"\n")
 }
 
 // The raw wait Nw − P with N=4, both slots 0, and its bound.
@@ -39,31 +33,16 @@ fn show_bound(rt: &impl Print, name: &[u8], delays: u8, depth: u8) -> io::Result
     print_bound(rt, wait.bound(4))
 }
 
-fn print_signed(rt: &impl Print, word: u32) -> io::Result<()> {
-    let n = word as u64;
-    if n < 0x8000_0000 {
-        print!(rt; "{n}")?;
-    } else {
-        print(rt, b"-")?;
-        let below = 0x1_0000_0000 - n;
-        print!(rt; "{below}")?;
-    }
-    Ok(())
-}
-
 fn show_scale(rt: &impl Print, name: &[u8], k: i16, word: u32) -> io::Result<()> {
     print(rt, name)?;
     let scaled = words::scale(k, word);
-    print_signed(rt, scaled)?;
-    print(rt, b", word ")?;
-    print!(rt; "{scaled}")?;
-    print(rt, b"\n")
+    let signed = scaled.cast_signed();
+    println!(rt; "{signed}, word {scaled}")
 }
 
 fn show_word(rt: &impl Print, name: &[u8], word: u32) -> io::Result<()> {
     print(rt, name)?;
-    print!(rt; "{word:08x}")?;
-    print(rt, b"\n")
+    println!(rt; "{word:08x}")
 }
 
 // The mean of two angles: from the first, half the difference on.

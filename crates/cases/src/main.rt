@@ -3,116 +3,83 @@
 // tests/cases.py. Assumes nothing.
 #![tactic(auto)]
 
-use planner::Planned;
+use planner::NoPlan;
 use plans::Plan;
-use scripts::reading::{byte, decode, front, pair, part, place, read_full};
-use scripts::showing::{print, print_number};
+use records::answers::number;
+use scripts::reading::{Script, behind, byte, decode, front, front_mut, read_full};
+use scripts::showing::{print, print_number, print_title};
 use sheets::Sheet;
 use std::io;
 
 // What the buffer holds before each call.
 const BEFORE: u8 = 170;
 
-// Where the next command stands, and where the sheet does.
+// The commands to come, and the last sheet.
 #[derive(Clone, Copy)]
-struct State {
-    at: usize,
-    sheet: usize,
-    length: usize,
-}
-
-// 1: a length and a title.
-fn title(rt: &impl Print, job: &[u8], s: State) -> io::Result<State> {
-    let n = byte(job, s.at) as usize;
-    print(rt, part(job, place(s.at, 1), n))?;
-    print(rt, b"\n")?;
-    Ok(State {
-        at: place(s.at, place(n, 1)),
-        sheet: s.sheet,
-        length: s.length,
-    })
+struct State<'a> {
+    script: Script<'a>,
+    sheet: &'a [u8],
 }
 
 // The length of the record whose mark has this second letter.
 fn record_length(letter: u8) -> usize {
-    if letter == Plan::HEADER_MARK {
-        return Plan::HEADER;
+    match letter {
+        Plan::HEADER_MARK => Plan::HEADER,
+        Plan::UNIT_MARK => Plan::UNIT,
+        Plan::NODE_MARK => Plan::NODE,
+        Plan::SWITCH_MARK => Plan::SWITCH,
+        _ => Plan::LOOP,
     }
-    if letter == Plan::UNIT_MARK {
-        return Plan::UNIT;
-    }
-    if letter == Plan::NODE_MARK {
-        return Plan::NODE;
-    }
-    if letter == Plan::SWITCH_MARK {
-        return Plan::SWITCH;
-    }
-    Plan::LOOP
-}
-
-fn print_byte(rt: &impl Print, b: u8) -> io::Result<()> {
-    print_number(rt, b as u64)
 }
 
 // A record: its mark, and the bytes behind it.
 fn show_record(rt: &impl Print, record: &[u8]) -> io::Result<()> {
     print(rt, b"  ")?;
-    print(rt, part(record, 0, 2))?;
-    let mut i = 2;
-    while i < record.len() {
-        print_byte(rt, record[i])?;
-        i += 1;
+    print(rt, front(record, 2))?;
+    for b in behind(record, 2) {
+        print_number(rt, *b as u64)?;
     }
     print(rt, b"\n")
 }
 
 // The records that stand in the bytes, of which there are no more than bytes.
 fn show_records(rt: &impl Print, bytes: &[u8]) -> io::Result<()> {
-    let mut at = 0;
-    let mut turns = 0;
-    while turns < bytes.len() {
-        if bytes.len() <= at {
-            return Ok(());
+    let mut rest = bytes;
+    for _ in 0..bytes.len() {
+        if rest.is_empty() {
+            break;
         }
-        let n = record_length(byte(bytes, place(at, 1)));
-        show_record(rt, part(bytes, at, n))?;
-        at = place(at, n);
-        turns += 1;
+        let n = record_length(byte(rest, 1));
+        show_record(rt, front(rest, n))?;
+        rest = behind(rest, n);
     }
     Ok(())
 }
 
 // Whether all bytes are as before.
 fn kept(bytes: &[u8]) -> bool {
-    let mut same = true;
-    let mut i = 0;
-    while i < bytes.len() {
-        same = same & (bytes[i] == BEFORE);
-        i += 1;
-    }
-    same
+    bytes.iter().all(|b| *b == BEFORE)
 }
 
 // How many of the buffer's bytes were written.
-fn written(answer: Planned) -> usize {
+fn written(answer: Result<usize, NoPlan>) -> usize {
     match answer {
-        Planned::Done(n) => n,
-        Planned::Unfoldable(n) => n,
-        _ => 0,
+        Ok(n) | Err(NoPlan::Unfoldable(n)) => n,
+        Err(_) => 0,
     }
 }
 
 // The answer's number, its length, and the records that were written.
-fn show_planned(rt: &impl Print, answer: Planned, buffer: &[u8]) -> io::Result<()> {
+fn show_planned(rt: &impl Print, answer: Result<usize, NoPlan>, buffer: &[u8]) -> io::Result<()> {
     let n = written(answer);
     print(rt, b"plan")?;
-    print_number(rt, answer.number() as u64)?;
-    print_number(rt, answer.length())?;
-    if kept(part(buffer, n, buffer.len())) {
+    print_number(rt, number(&answer) as u64)?;
+    print_number(rt, planner::length(&answer))?;
+    if kept(behind(buffer, n)) {
         print(rt, b", the rest kept")?;
     }
     print(rt, b"\n")?;
-    show_records(rt, part(buffer, 0, n))
+    show_records(rt, front(buffer, n))
 }
 
 fn plan_into(rt: &impl Print, sheet: &[u8], buffer: &mut [u8]) -> io::Result<()> {
@@ -121,150 +88,110 @@ fn plan_into(rt: &impl Print, sheet: &[u8], buffer: &mut [u8]) -> io::Result<()>
 }
 
 // 2: the room in two bytes, the sheet's length in two, and the sheet.
-fn plan(rt: &impl Print, job: &[u8], s: State) -> io::Result<State> {
-    let room = pair(job, s.at);
-    let n = pair(job, place(s.at, 2));
-    let at = place(s.at, 4);
+fn plan(rt: &impl Print, s: &mut State) -> io::Result<()> {
+    let room = s.script.pair();
+    let n = s.script.pair();
+    s.sheet = s.script.part(n as usize);
     let mut buffer = [BEFORE; 2048];
-    plan_into(rt, part(job, at, n), front(&mut buffer[..], room))?;
-    Ok(State {
-        at: place(at, n),
-        sheet: at,
-        length: n,
-    })
+    plan_into(rt, s.sheet, front_mut(&mut buffer, room as usize))
 }
 
 // 3: the live count of each slot of the last sheet, so many slots.
-fn live(rt: &impl Print, job: &[u8], s: State) -> io::Result<State> {
-    let sheet = part(job, s.sheet, s.length);
-    let n = byte(job, s.at);
+fn live(rt: &impl Print, s: &mut State) -> io::Result<()> {
     print(rt, b"live")?;
-    let mut slot = 0;
-    while slot < n {
-        print_number(rt, planner::figures::live_in(sheet, slot) as u64)?;
-        slot += 1;
+    for slot in 0..s.script.byte() {
+        print_number(rt, planner::figures::live_in(s.sheet, slot) as u64)?;
     }
-    print(rt, b"\n")?;
-    Ok(State {
-        at: place(s.at, 1),
-        sheet: s.sheet,
-        length: s.length,
-    })
+    print(rt, b"\n")
 }
 
-// Where wire e of a sheet stands, and switch e of its plan.
-fn wire_place(sheet: &[u8], e: u8) -> usize {
-    let units = Sheet::HEADER + Sheet::UNIT * byte(sheet, 3) as usize;
-    let nodes = place(units, Sheet::NODE * byte(sheet, 4) as usize);
-    place(nodes, Sheet::WIRE * e as usize)
+// Wire e of a sheet, and switch e of its plan, with what stands behind it.
+fn wire(sheet: &[u8], e: u8) -> &[u8] {
+    let units = Sheet::UNIT * byte(sheet, 3) as usize;
+    let nodes = Sheet::NODE * byte(sheet, 4) as usize;
+    behind(
+        sheet,
+        Sheet::HEADER + units + nodes + Sheet::WIRE * e as usize,
+    )
 }
 
-fn switch_place(plan: &[u8], e: u8) -> usize {
-    let units = Plan::HEADER + Plan::UNIT * byte(plan, 3) as usize;
-    let nodes = place(units, Plan::NODE * byte(plan, 4) as usize);
-    place(nodes, Plan::SWITCH * e as usize)
+fn switch(plan: &[u8], e: u8) -> &[u8] {
+    let units = Plan::UNIT * byte(plan, 3) as usize;
+    let nodes = Plan::NODE * byte(plan, 4) as usize;
+    behind(
+        plan,
+        Plan::HEADER + units + nodes + Plan::SWITCH * e as usize,
+    )
 }
 
 // The tap of wire e where it leaves the node.
-fn tap_from(sheet: &[u8], plan: &[u8], node: u8, e: u8) -> usize {
-    if byte(sheet, place(wire_place(sheet, e), 2)) == node {
-        pair(plan, place(switch_place(plan, e), 6))
+fn tap_from(sheet: &[u8], plan: &[u8], node: u8, e: u8) -> u16 {
+    if byte(wire(sheet, e), 2) == node {
+        Script::new(behind(switch(plan, e), 6)).pair()
     } else {
         0
     }
 }
 
-fn larger(a: usize, b: usize) -> usize {
-    if a < b { b } else { a }
-}
-
 // The largest tap of the wires that leave the node.
-fn longest_tap(sheet: &[u8], plan: &[u8], node: u8) -> usize {
-    let wires = byte(sheet, 5);
-    let mut most = 0;
-    let mut e = 0;
-    while e < wires {
-        most = larger(most, tap_from(sheet, plan, node, e));
-        e += 1;
-    }
-    most
+fn longest_tap(sheet: &[u8], plan: &[u8], node: u8) -> u16 {
+    (0..byte(sheet, 5))
+        .map(|e| tap_from(sheet, plan, node, e))
+        .max()
+        .unwrap_or(0)
 }
 
 // The cycle at which the node's first word leaves: its slot and its unit's depth.
-fn leaves_at(sheet: &[u8], node: u8) -> usize {
-    let units = Sheet::HEADER + Sheet::UNIT * byte(sheet, 3) as usize;
-    let at = place(units, Sheet::NODE * node as usize);
-    let unit = Sheet::HEADER + Sheet::UNIT * byte(sheet, place(at, 2)) as usize;
-    place(
-        byte(sheet, place(at, 3)) as usize,
-        byte(sheet, place(unit, 3)) as usize,
-    )
-}
-
-fn show_cycle(rt: &impl Print, cycle: usize, fold: u8, slot: u8) -> io::Result<()> {
-    if fold == 0 {
-        return Ok(());
-    }
-    if cycle % (fold as usize) == slot as usize {
-        print_number(rt, cycle as u64)?;
-    }
-    Ok(())
+fn leaves_at(sheet: &[u8], node: u8) -> u16 {
+    let units = Sheet::UNIT * byte(sheet, 3) as usize;
+    let at = Sheet::HEADER + units + Sheet::NODE * node as usize;
+    let unit = Sheet::HEADER + Sheet::UNIT * byte(sheet, at + 2) as usize;
+    byte(sheet, at + 3) as u16 + byte(sheet, unit + 3) as u16
 }
 
 // The cycles at which the node's word is live in a slot.
 fn show_live(rt: &impl Print, sheet: &[u8], plan: &[u8], node: u8, slot: u8) -> io::Result<()> {
-    let mut cycle = leaves_at(sheet, node);
-    let last = place(cycle, longest_tap(sheet, plan, node));
+    let fold = byte(sheet, 2) as u32;
+    let leaves = leaves_at(sheet, node) as u32;
+    let last = leaves + longest_tap(sheet, plan, node) as u32;
     print(rt, b"live in the slot at")?;
-    while cycle < last {
-        cycle += 1;
-        show_cycle(rt, cycle, byte(sheet, 2), slot)?;
+    for cycle in leaves + 1..=last {
+        if cycle.checked_rem(fold) == Some(slot as u32) {
+            print_number(rt, cycle as u64)?;
+        }
     }
     print(rt, b"\n")
 }
 
 // 4: a node and a slot of the last sheet.
-fn live_at(rt: &impl Print, job: &[u8], s: State) -> io::Result<State> {
-    let sheet = part(job, s.sheet, s.length);
+fn live_at(rt: &impl Print, s: &mut State) -> io::Result<()> {
     let mut plan = [0u8; 2048];
-    planner::plan(sheet, &mut plan);
-    show_live(rt, sheet, &plan, byte(job, s.at), byte(job, place(s.at, 1)))?;
-    Ok(State {
-        at: place(s.at, 2),
-        sheet: s.sheet,
-        length: s.length,
-    })
+    let _ = planner::plan(s.sheet, &mut plan);
+    let node = s.script.byte();
+    let slot = s.script.byte();
+    show_live(rt, s.sheet, &plan, node, slot)
 }
 
-fn command(rt: &impl Print, job: &[u8], s: State) -> io::Result<State> {
-    let op = byte(job, s.at);
-    let next = State {
-        at: place(s.at, 1),
-        sheet: s.sheet,
-        length: s.length,
-    };
-    match op {
-        1 => title(rt, job, next),
-        2 => plan(rt, job, next),
-        3 => live(rt, job, next),
-        _ => live_at(rt, job, next),
+fn command(rt: &impl Print, s: &mut State) -> io::Result<()> {
+    match s.script.byte() {
+        1 => print_title(rt, &mut s.script),
+        2 => plan(rt, s),
+        3 => live(rt, s),
+        _ => live_at(rt, s),
     }
 }
 
 // All commands, of which there are no more than bytes.
 fn run(rt: &impl Print, job: &[u8]) -> io::Result<()> {
     let mut s = State {
-        at: 0,
-        sheet: 0,
-        length: 0,
+        script: Script::new(job),
+        sheet: &[],
     };
-    let mut turns = 0;
-    while turns < job.len() {
-        if job.len() <= s.at {
-            return Ok(());
+    for _ in 0..job.len() {
+        if s.script.is_read() {
+            break;
         }
-        s = command(rt, job, s)?;
-        turns += 1;
+        command(rt, &mut s)?;
     }
     Ok(())
 }
@@ -274,6 +201,6 @@ fn main(rt: HostRuntime) -> io::Result<()> {
     let mut input = rt.stdin();
     let n = read_full(&mut input, &mut text)?;
     let mut job = [0u8; 32768];
-    let digits = decode(&text[..n], &mut job[..]);
-    run(&rt, part(&job[..], 0, digits / 2))
+    let bytes = decode(&text[..n], &mut job);
+    run(&rt, front(&job, bytes))
 }

@@ -6,23 +6,20 @@ ghost use Rattle.records.specs.Units.{channels, k_fits};
 ghost use Rattle.records.specs.Records.{at};
 ghost use Rattle.records.specs.Answers.{channel_of};
 ghost use Rattle.plans.specs.Plan.{node_in, plan_read};
-ghost use Rattle.memory.specs.Taken.{Taken, Ready};
 ghost use Rattle.inputs.specs.Inputs.{Gathered};
 ghost use Rattle.cycle.specs.Given.{node_in_slot, node_unit, begun_by, given, ResultsOf};
 
-use inputs::inputs_in;
-use memory::WORD_BEFORE;
-use plans::Plan;
-use records::reading::node_in;
+use inputs::{INPUTS, inputs_in};
+use memory::{FinePlan, Lines, WORD_BEFORE};
+use records::reading::{Header, node_in};
 use records::{Node, Unit};
 
 // Node x of the plan.
-fn node_of(plan: &[u8], p: Plan, x: usize) -> Node
-    requires taken { Taken plan.now p }
-    requires x_lt_nodes { x < p.nodes }
-    ensures { result ≡ (node_in (plan_read plan.now) x).node }
+fn node_of(plan: &FinePlan, x: usize) -> Node
+    requires { x < plan.now.head.nodes }
+    ensures { result ≡ (node_in (plan_read plan.now.b.now) x).node }
 {
-    node_in(plan, p.node_run(), x)
+    node_in(plan.b, plan.head.node_run(), x)
 }
 
 // The word of a port's channel. Other nodes look at no sample.
@@ -35,12 +32,11 @@ fn sample_of(samples: &[u32], n: Node) -> u32
 }
 
 // What node x gives at cycle t.
-fn begun_by(plan: &[u8], p: Plan, x: usize, t: u32, n: Node, sample: u32, a: u32, b: u32) -> u32
-    requires taken { Taken plan.now p }
-    requires x_lt_nodes { x < p.nodes }
-    ensures { result ≡ begun_by (t / (plan_read plan.now).fold) (node_in (plan_read plan.now) x).start n sample a b }
+fn begun_by(plan: &FinePlan, x: usize, t: u32, n: Node, sample: u32, a: u32, b: u32) -> u32
+    requires { x < plan.now.head.nodes }
+    ensures { result ≡ begun_by (t / (plan_read plan.now.b.now).fold) (node_in (plan_read plan.now.b.now) x).start n sample a b }
 {
-    if plans::start_at(plan, p.node_place(x)).ahead(t, p.fold) {
+    if plans::start_at(plan.b, plan.head.node_place(x)).ahead(t, plan.head.fold) {
         WORD_BEFORE
     } else {
         records::value(n.op, n.k, sample, a, b)
@@ -48,36 +44,37 @@ fn begun_by(plan: &[u8], p: Plan, x: usize, t: u32, n: Node, sample: u32, a: u32
 }
 
 // What the nodes of the slot give, each at its unit.
-fn results_in(plan: &[u8], p: Plan, words: [u32; 16], samples: &[u32], t: u32) -> [u32; 8]
-    requires taken { Taken plan.now p }
-    requires channels_in_bounds { channels ≤ length samples.now }
-    ensures { Gathered p.nodes (node_in_slot (plan_read plan.now) (t % (plan_read plan.now).fold)) (node_unit (plan_read plan.now)) (given (plan_read plan.now) t samples.now words) 8 result }
+fn results_in(
+    plan: &FinePlan,
+    words: [u32; INPUTS],
+    samples: &[u32],
+    t: u32,
+) -> [u32; Header::MOST_UNITS]
+    requires { channels ≤ length samples.now }
+    ensures { Gathered plan.now.head.nodes (node_in_slot (plan_read plan.now.b.now) (t % (plan_read plan.now.b.now).fold)) (node_unit (plan_read plan.now.b.now)) (given (plan_read plan.now.b.now) t samples.now words) 8 result }
 {
-    let slot = p.slot_at(t);
-    let nodes = p.nodes as usize;
-    let mut results = [0u32; 8];
-    let mut x = 0;
-    while x < nodes {
-        let n = node_of(plan, p, x);
+    let slot = plan.head.slot_at(t);
+    let mut results = [0; Header::MOST_UNITS];
+    for x in 0..usize::from(plan.head.nodes) {
+        let n = node_of(plan, x);
         if n.slot == slot {
             let q = n.unit as usize;
             let first = Unit::MOST_INPUTS * q;
             let a = words[first];
             let b = words[first + 1];
-            results[q] = begun_by(plan, p, x, t, n, sample_of(samples, n), a, b);
+            results[q] = begun_by(plan, x, t, n, sample_of(samples, n), a, b);
         }
-        x += 1;
     }
     results
 }
 
 // The result that each unit begins, from the memory as it stands.
-pub fn results(plan: &[u8], p: Plan, lines: &[usize], memory: &[u32], samples: &[u32]) -> [u32; 8]
-    requires ready { Ready plan.now p lines.now memory.now }
+pub fn results(lines: &Lines, memory: &[u32], samples: &[u32]) -> [u32; Header::MOST_UNITS]
+    requires room { lines.now.words ≤ length memory.now }
     requires channels_in_bounds { channels ≤ length samples.now }
-    ensures { ResultsOf (plan_read plan.now) memory.now samples.now result }
+    ensures { ResultsOf (plan_read lines.now.plan.b.now) memory.now samples.now result }
 {
     let t = memory[0];
-    let words = inputs_in(plan, p, lines, memory, p.slot_at(t));
-    results_in(plan, p, words, samples, t)
+    let words = inputs_in(lines, memory, lines.plan.head.slot_at(t));
+    results_in(&lines.plan, words, samples, t)
 }

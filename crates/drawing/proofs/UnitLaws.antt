@@ -19,7 +19,7 @@ use Rattle.sheets.specs.Answers.{Held}
 use Rattle.sheets.proofs.AnswerLaws.{held_of}
 use Rattle.plans.specs.Judging.{longest_tap}
 use Rattle.waits.specs.Fine.{Fine, Longest, from_unit}
-use Rattle.waits.proofs.FineLaws.{sound_so, fold_so, nodes_so, fold_some}
+use Rattle.waits.proofs.FineLaws.{sound_so, fold_so, nodes_so, within_so}
 use Rattle.drawing.specs.PlanOf.{plan_unit}
 use Rattle.drawing.specs.Laying.{Counted, starts_in}
 
@@ -30,7 +30,7 @@ held_so b s f = rw f.whole.said (held_of b f.fine)
 module _ (b : List ℕ) (s : Head.Sheet) (f : Fine b s) where
   pub slots_counted : (slots : Slots) → SlotsOf s.nodes (node_of (sheet_of b)) slots → Counted b slots.occupied
   slots_counted slots taken q =
-      occupied_ones (sheet_of b).fold s.nodes (node_of (sheet_of b)) slots q taken (omega (arith, fold_so b s f, (fold_some b s f).1))
+      occupied_ones (sheet_of b).fold s.nodes (node_of (sheet_of b)) slots q taken (omega (arith, fold_so b s f, (within_so b s f).fold_most))
       (λ x h. (sound_so b s f).in_turn x (omega (arith, nodes_so b s f)))
       ∙ ap (λ (n : ℕ). occupied (sheet_of b).fold n (node_of (sheet_of b)) q) (nodes_so b s f)
 

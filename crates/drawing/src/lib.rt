@@ -8,7 +8,7 @@ ghost use Rattle.sheets.specs.Sheet.{sheet_of};
 ghost use Rattle.folding.specs.Walks.{chain};
 ghost use Rattle.folding.specs.Folding.{net};
 ghost use Rattle.plans.specs.Plan.{plan_bytes};
-ghost use Rattle.waits.specs.Fine.{Fine, Started, Tapped, Longest, from_unit};
+ghost use Rattle.waits.specs.Fine.{Started, Tapped, Longest, from_unit};
 ghost use Rattle.writing.specs.Laid.{laid};
 ghost use Rattle.drawing.specs.PlanOf.{plan_length, plan_of};
 ghost use Rattle.drawing.specs.Laying.{Counted, joint_of, unit_records, node_records, switch_records};
@@ -19,17 +19,17 @@ use sheets::Sheet;
 use sheets::judging::slots_of;
 use times::{Cycles, Iterations};
 use waits::Waited;
+use waits::fine::FineSheet;
 use writing::{write_header, write_node, write_switch, write_unit};
 
 // What wire e's switch joins.
-fn joint_of(b: &[u8], sheet: Sheet, e: usize) -> Joint
-    requires fine { Fine b.now sheet }
-    requires e_lt_wires { e < sheet.wires }
-    ensures { result ≡ joint_of (sheet_of b.now) e }
+fn joint_of(sheet: &FineSheet, e: usize) -> Joint
+    requires { e < sheet.now.head.wires }
+    ensures { result ≡ joint_of (sheet_of sheet.now.b.now) e }
 {
-    let wire = sheets::wire_of(b, sheet, e);
-    let from = sheets::node_of(b, sheet, wire.from as usize);
-    let to = sheets::node_of(b, sheet, wire.to as usize);
+    let wire = sheet.wire(e);
+    let from = sheet.node(usize::from(wire.from));
+    let to = sheet.node(usize::from(wire.to));
     Joint {
         unit: to.unit,
         input: wire.input,
@@ -46,66 +46,54 @@ fn idle_of(fold: u8, mask: u32) -> u8
     fold - words::masks::occupied(mask) as u8
 }
 
+// A loop for each sort of record: one function over a closure would have to hand it the buffer, and be no shorter.
+
 // The units with their lines and idle slots.
 fn write_units(
-    b: &[u8],
-    sheet: Sheet,
-    waited: Waited,
+    sheet: &FineSheet,
+    waited: &Waited,
     occupied: [u32; Sheet::MOST_UNITS],
     at: usize,
     out: &mut [u8],
 )
-    requires fine { Fine b.now sheet }
-    requires longest { Longest b.now (from_unit b.now) most_units waited.lines }
-    requires counted { Counted b.now occupied }
-    requires units_in_bounds { at + 7 * sheet.units ≤ length out.old }
-    ensures { out.new ≡ laid out.old at (unit_records b.now sheet.units) }
+    requires longest { Longest sheet.now.b.now (from_unit sheet.now.b.now) most_units waited.now.lines }
+    requires counted { Counted sheet.now.b.now occupied }
+    requires units_in_bounds { at + 7 * sheet.now.head.units ≤ length out.old }
+    ensures { out.new ≡ laid out.old at (unit_records sheet.now.b.now sheet.now.head.units) }
 {
-    let units = sheet.units as usize;
-    let mut q = 0;
-    while q < units {
-        let unit = sheets::unit_of(b, sheet, q);
-        let idle = idle_of(sheet.fold, occupied[q]);
+    for q in 0..usize::from(sheet.head.units) {
+        let unit = sheet.unit(q);
+        let idle = idle_of(sheet.head.fold, occupied[q]);
         write_unit(out, at + Plan::UNIT * q, unit, waited.lines[q], idle);
-        q += 1;
     }
 }
 
 // The nodes with their starts.
 fn write_nodes(
-    b: &[u8],
-    sheet: Sheet,
-    starts: [Iterations; Sheet::MOST_NODES],
+    sheet: &FineSheet,
+    starts: &[Iterations; Sheet::MOST_NODES],
     at: usize,
     out: &mut [u8],
 )
-    requires fine { Fine b.now sheet }
-    requires started { Started b.now starts }
-    requires nodes_in_bounds { at + 9 * sheet.nodes ≤ length out.old }
-    ensures { out.new ≡ laid out.old at (node_records b.now sheet.nodes) }
+    requires started { Started sheet.now.b.now starts.now }
+    requires nodes_in_bounds { at + 9 * sheet.now.head.nodes ≤ length out.old }
+    ensures { out.new ≡ laid out.old at (node_records sheet.now.b.now sheet.now.head.nodes) }
 {
-    let nodes = sheet.nodes as usize;
-    let mut x = 0;
-    while x < nodes {
-        let node = sheets::node_of(b, sheet, x);
+    for x in 0..usize::from(sheet.head.nodes) {
+        let node = sheet.node(x);
         write_node(out, at + Plan::NODE * x, node, starts[x]);
-        x += 1;
     }
 }
 
 // A switch for each wire, with its wait for a tap.
-fn write_switches(b: &[u8], sheet: Sheet, waited: Waited, at: usize, out: &mut [u8])
-    requires fine { Fine b.now sheet }
-    requires tapped { Tapped b.now waited.waits }
-    requires wires_in_bounds { at + 8 * sheet.wires ≤ length out.old }
-    ensures { out.new ≡ laid out.old at (switch_records b.now sheet.wires) }
+fn write_switches(sheet: &FineSheet, waited: &Waited, at: usize, out: &mut [u8])
+    requires tapped { Tapped sheet.now.b.now waited.now.waits }
+    requires wires_in_bounds { at + 8 * sheet.now.head.wires ≤ length out.old }
+    ensures { out.new ≡ laid out.old at (switch_records sheet.now.b.now sheet.now.head.wires) }
 {
-    let wires = sheet.wires as usize;
-    let mut e = 0;
-    while e < wires {
-        let joint = joint_of(b, sheet, e);
+    for e in 0..usize::from(sheet.head.wires) {
+        let joint = joint_of(sheet, e);
         write_switch(out, at + Plan::SWITCH * e, joint, waited.waits[e]);
-        e += 1;
     }
 }
 
@@ -118,25 +106,23 @@ pub fn plan_head(sheet: Sheet) -> Plan
 
 // The plan of a sheet that folds, at the head of the buffer.
 pub fn write_plan(
-    b: &[u8],
-    sheet: Sheet,
+    sheet: &FineSheet,
     starts: [Iterations; Sheet::MOST_NODES],
     rounds: u8,
     made: [Cycles; Sheet::MOST_WIRES],
     out: &mut [u8],
 )
-    requires fine { Fine b.now sheet }
-    requires started { Started b.now starts }
-    requires rounds_value { rounds ≡ chain (net (sheet_of b.now)) }
-    requires b_in_bounds { plan_length b.now ≤ length out.old }
-    ensures { out.new ≡ over (plan_bytes (plan_of (sheet_of b.now))) out.old }
+    requires started { Started sheet.now.b.now starts }
+    requires rounds_value { rounds ≡ chain (net (sheet_of sheet.now.b.now)) }
+    requires b_in_bounds { plan_length sheet.now.b.now ≤ length out.old }
+    ensures { out.new ≡ over (plan_bytes (plan_of (sheet_of sheet.now.b.now))) out.old }
 {
-    let plan = plan_head(sheet);
-    let waited = waits::waits(b, sheet, starts, made);
-    write_header(out, plan, registers(b, sheet, waited), rounds);
-    let slots = slots_of(b, sheet);
-    let occupied = slots.occupied;
-    write_units(b, sheet, waited, occupied, plan.unit_place(0), out);
-    write_nodes(b, sheet, starts, plan.node_place(0), out);
-    write_switches(b, sheet, waited, plan.switch_place(0), out);
+    let plan = plan_head(sheet.head);
+    let waited = waits::waits(sheet, starts, made);
+    write_header(out, plan, registers(sheet, &waited), rounds);
+    let slots = slots_of(sheet.b, sheet.head);
+    // The masks alone go on, by value, so that what is compiled works out no clash.
+    write_units(sheet, &waited, slots.occupied, plan.unit_place(0), out);
+    write_nodes(sheet, &starts, plan.node_place(0), out);
+    write_switches(sheet, &waited, plan.switch_place(0), out);
 }

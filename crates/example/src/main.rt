@@ -2,9 +2,7 @@
 // The filter is the mean of two angles, 337.5 degrees on channel 5 and 45 degrees on channel 2: over the seam it is 11.25, 0x08000000.
 #![tactic(auto)]
 
-use machine::{Needed, Stepped};
-use planner::Planned;
-use scripts::reading::part;
+use scripts::reading::front;
 use scripts::showing::{print, print_number, print_words};
 use std::io;
 
@@ -21,28 +19,27 @@ fn cycle(rt: &impl Print, plan: &[u8], memory: &mut [u32]) -> io::Result<()> {
     channels[2] = 0x2000_0000;
     let mut out = [0u32; 3];
     let answer = machine::step(plan, memory, &channels, &mut out);
-    if let Stepped::Done = answer {
+    if answer.is_ok() {
         print_words(rt, &out)?;
     }
     print(rt, b"\n")
 }
 
 fn run(rt: &impl Print, plan: &[u8], memory: &mut [u32]) -> io::Result<()> {
-    machine::clear(plan, memory);
-    let mut t = 0;
-    while t < 16 {
+    if machine::clear(plan, memory).is_err() {
+        return print(rt, b"not cleared\n");
+    }
+    for t in 0..16 {
         print(rt, b"cycle")?;
         print_number(rt, t)?;
         cycle(rt, plan, memory)?;
-        t += 1;
     }
     Ok(())
 }
 
 // A plan's size and its memory's, and sixteen cycles.
 fn show(rt: &impl Print, plan: &[u8]) -> io::Result<()> {
-    let needed = machine::memory_words(plan);
-    let Needed::Words(words) = needed else {
+    let Ok(words) = machine::memory_words(plan) else {
         return print(rt, b"no plan\n");
     };
     print(rt, b"plan of")?;
@@ -57,9 +54,8 @@ fn show(rt: &impl Print, plan: &[u8]) -> io::Result<()> {
 fn main(rt: HostRuntime) -> io::Result<()> {
     let sheet = SHEET;
     let mut plan = [0u8; 256];
-    let answer = planner::plan(&sheet, &mut plan);
-    let Planned::Done(n) = answer else {
+    let Ok(n) = planner::plan(&sheet, &mut plan) else {
         return print(&rt, b"refused\n");
     };
-    show(&rt, part(&plan, 0, n))
+    show(&rt, front(&plan, n))
 }

@@ -33,11 +33,11 @@ module _ {b : List ℕ} {at nodes wires : ℕ} (bounds : List Iterations) (wired
   cl = closed bounds wired
 
   record Back (k u : ℕ) : Type 0 where
-    reads : Backed b at choices (suc k) u
+    reads : Backed g choices (suc k) u
     end : ℕ
-    walk : Walk g (back b at choices (suc k) u) u end
-    long : length (back b at choices (suc k) u) ≡ suc k
-    comes : along g (back b at choices (suc k) u) ≤ℤ round g (suc k) u
+    walk : Walk g (back g choices (suc k) u) u end
+    long : length (back g choices (suc k) u) ≡ suc k
+    comes : along g (back g choices (suc k) u) ≤ℤ round g (suc k) u
 
   back_walk : (k u : ℕ) → k < nodes → u < nodes → Falls g k u → Back k u
   unfolding back
@@ -47,7 +47,7 @@ module _ {b : List ℕ} {at nodes wires : ℕ} (bounds : List Iterations) (wired
       let near = r.comes in
       let none = round_zero g (g.to c) (wired.meets c r.wire) in
       record {
-        reads = (omega (arith, wired.few_nodes), omega (arith, wired.inside, r.wire), tt);
+        reads = (omega (arith, wired.few_nodes), r.wire, tt);
         end = g.to c;
         walk = (r.wire, r.leaves, refl);
         long = refl;
@@ -60,11 +60,11 @@ module _ {b : List ℕ} {at nodes wires : ℕ} (bounds : List Iterations) (wired
       let m = back_walk k (g.to c) (omega arith) (wired.meets c r.wire) (falls_on g cl k u c r f) in
       let far = m.comes in
       record {
-        reads = (omega (arith, wired.few_nodes), omega (arith, wired.inside, r.wire), m.reads);
+        reads = (omega (arith, wired.few_nodes), r.wire, m.reads);
         end = m.end;
         walk = (r.wire, r.leaves, m.walk);
         long = ap suc m.long;
-        comes = omega (ints, sumℤ (g.bound c) (along g (back b at choices (suc k) (g.to c))), sumℤ (g.bound c) (round g (suc k) (g.to c)));
+        comes = omega (ints, sumℤ (g.bound c) (along g (back g choices (suc k) (g.to c))), sumℤ (g.bound c) (round g (suc k) (g.to c)));
       }
 
   all_back : Back (nodes - 1) first
@@ -73,20 +73,20 @@ module _ {b : List ℕ} {at nodes wires : ℕ} (bounds : List Iterations) (wired
   whole : suc (nodes - 1) ≡ nodes
   whole = omega (arith, wired.some_node)
 
-  pub kept_backed : Backed b at choices nodes first
-  kept_backed = subst (λ (k : ℕ). Backed b at choices k first) whole all_back.reads
+  pub kept_backed : Backed g choices nodes first
+  kept_backed = subst (λ (k : ℕ). Backed g choices k first) whole all_back.reads
 
-  pub kept_falling : Falling g (back b at choices nodes first)
+  pub kept_falling : Falling g (back g choices nodes first)
   kept_falling =
       let m = all_back in
       let near = m.comes in
       let fall = kept.falls in
-      subst (λ (k : ℕ). Falling g (back b at choices k first)) whole
+      subst (λ (k : ℕ). Falling g (back g choices k first)) whole
       (record {
         start = first;
         end = m.end;
         in_net = kept.node;
         walk = m.walk;
         long = m.long ∙ whole;
-        falls = let l : along g (back b at choices (suc (nodes - 1)) first) <ℤ round g (nodes - 1) first = omega ints in l;
+        falls = let l : along g (back g choices (suc (nodes - 1)) first) <ℤ round g (nodes - 1) first = omega ints in l;
       })

@@ -1,8 +1,9 @@
 -- Only passes between functions: a walk whose total still falls, from the wires that the rounds chose; choices kept, and followed
 -- back. Assumes nothing.
-use Rattle.std.specs.Prelude.{◌≡◌, List, [], ◌∷◌, ℕ, zero, suc, ◌+◌, ◌*◌, ◌-◌, ◌<◌, ◌≤◌, length, get_or, ℤ, ◌+ℤ◌, ◌≤ℤ◌, ◌<ℤ◌}
+use Rattle.std.specs.Prelude.{◌≡◌, ◌⊎◌, List, [], ◌∷◌, ℕ, zero, suc, ◌+◌, ◌*◌, ◌-◌, ◌<◌, length, get_or, ℤ, ◌+ℤ◌, ◌≤ℤ◌, ◌<ℤ◌}
+use Rattle.times.specs.declared.Iterations.{Iterations}
+use Rattle.times.specs.Times.{iterations_at}
 use Rattle.records.specs.Records.{most_nodes}
-use Rattle.sheets.specs.Sheet.{sheet_format, wire_at}
 use Rattle.folding.specs.Walks.{Net, Walk, along}
 use Rattle.folding.specs.Round.{round}
 
@@ -13,6 +14,12 @@ pub record Reaches (g : Net) (d : ℕ → ℤ) (t : ℤ) (u c : ℕ) : Type 0 wh
   pub wire : c < g.wires
   pub leaves : g.from c ≡ u
   pub comes : (g.bound c +ℤ d (g.to c)) ≤ℤ t
+
+-- in round k + 1 from the totals d, so far l: the choices of the nodes that fell, and r the last of them
+pub record Picking (g : Net) (d : ℕ → ℤ) (k : ℕ) (l : List Iterations) (choices : List ℕ) (r : ℕ) : Type 0 where
+  pub lower : (u : ℕ) → iterations_at l u ≤ℤ d u
+  pub picked : (u : ℕ) → iterations_at l u <ℤ d u → Reaches g d (iterations_at l u) u (get_or choices (most_nodes * k + u) 0)
+  pub last : ((u : ℕ) → iterations_at l u ≡ d u) ⊎ ((r < g.nodes) × (iterations_at l r <ℤ d r))
 
 -- node u's total falls with round k + 1
 abbrev pub Falls : Net → ℕ → ℕ → Type 0
@@ -27,24 +34,17 @@ pub record Kept (g : Net) (choices : List ℕ) (r : ℕ) : Type 0 where
 
 -- ---- followed back
 
--- the ends of wire e, whose record is read where it stands
-abbrev pub from_at : List ℕ → ℕ → ℕ → ℕ
-from_at b at e = (wire_at b (at + sheet_format.wire_length * e)).from
-
-abbrev pub to_at : List ℕ → ℕ → ℕ → ℕ
-to_at b at e = (wire_at b (at + sheet_format.wire_length * e)).to
-
 -- the chosen wires of rounds k, .., 1, from node u on
-unfoldable pub back : List ℕ → ℕ → List ℕ → ℕ → ℕ → List ℕ
-back b at choices zero u = []
-back b at choices (suc k) u = let c = get_or choices (most_nodes * k + u) 0 in c ∷ back b at choices k (to_at b at c)
+unfoldable pub back : Net → List ℕ → ℕ → ℕ → List ℕ
+back g choices zero u = []
+back g choices (suc k) u = let c = get_or choices (most_nodes * k + u) 0 in c ∷ back g choices k (g.to c)
 
--- each of them is read inside b, at a node's place
-abbrev pub Backed : List ℕ → ℕ → List ℕ → ℕ → ℕ → Type 0
-Backed b at choices zero u = Unit {0}
-Backed b at choices (suc k) u =
+-- each of them is a wire, and is read at a node's place
+abbrev pub Backed : Net → List ℕ → ℕ → ℕ → Type 0
+Backed g choices zero u = Unit {0}
+Backed g choices (suc k) u =
     let c = get_or choices (most_nodes * k + u) 0 in
-    (u < most_nodes) × (at + sheet_format.wire_length * suc c ≤ length b) × Backed b at choices k (to_at b at c)
+    (u < most_nodes) × (c < g.wires) × Backed g choices k (g.to c)
 
 -- ---- a walk, by the places of its wires
 

@@ -3,96 +3,83 @@
 // many wires as there are nodes, with a total below that of all shorter walks. Assumes nothing.
 #![tactic(auto)]
 
-ghost use Rattle.std.specs.Prelude.{◌≡◌, false, ◌*◌, ◌≤◌, length, take};
+ghost use Rattle.std.specs.Prelude.{◌≡◌, false, ℕ, ◌+◌, ◌*◌, ◌<◌, ◌≤◌, length, get_or, take};
+ghost use Rattle.times.specs.Times.{iterations_at};
 ghost use Rattle.records.specs.Records.{most_nodes};
 ghost use Rattle.folding.specs.Walks.{foldable};
-ghost use Rattle.rounds.specs.Rounds.{bytes_net, Wired, Moderate};
-ghost use Rattle.falls.specs.Choices.{Kept, back, Backed, Falling};
+ghost use Rattle.rounds.specs.Rounds.{Fitting, Reached};
+ghost use Rattle.rounds.specs.NetOf.{net_of};
+ghost use Rattle.falls.specs.Choices.{Picking, Kept, back, Backed, Falling};
 
-use rounds::{Layout, end_at, no_totals, wide};
+use rounds::net::Net;
+use sheets::Sheet;
 use times::Iterations;
 
-// The choices of as many rounds as there are nodes, and a node whose total fell with the last.
-fn keep(
-    b: &[u8],
-    at: usize,
-    wires: usize,
-    nodes: usize,
-    bounds: [Iterations; Layout::WIRES],
+// Round k + 1 over all wires, with a choice for each node whose total falls, and the last of these nodes.
+fn choose(
+    net: &Net,
+    k: usize,
+    former: &[Iterations; Sheet::MOST_NODES],
+    totals: &mut [Iterations; Sheet::MOST_NODES],
     choices: &mut [u8],
 ) -> usize
-    requires wired { Wired b.now at nodes wires }
-    requires moderate { Moderate (bytes_net b.now at nodes wires bounds) }
-    requires bounds_value { foldable (bytes_net b.now at nodes wires bounds) ≡ false }
-    requires most_nodes_in_bounds { most_nodes * most_nodes ≤ length choices.old }
-    ensures { Kept (bytes_net b.now at nodes wires bounds) choices.new result }
+    requires sums { Fitting (net_of net.now) (iterations_at former.now) }
+    requires same { totals.old ≡ former.now }
+    requires room { most_nodes * k + most_nodes ≤ length choices.old }
+    ensures reached { Reached (net_of net.now) (iterations_at former.now) totals.new net.now.wires }
+    ensures picking { Picking (net_of net.now) (iterations_at former.now) k totals.new choices.new result }
+    ensures before { (i : ℕ) → i < most_nodes * k → get_or choices.new i 0 ≡ get_or choices.old i 0 }
 {
-    let mut former = no_totals();
-    let mut totals = former;
     let mut fell = 0;
-    let mut k = 0;
-    let mut e = 0;
-    while k < nodes {
-        if e < wires {
-            let u = end_at(b, at, e, Layout::FROM);
-            let v = end_at(b, at, e, Layout::TO);
-            let sum = bounds[e].plus(former[v]);
+    for e in 0..net.wires {
+        if let Some(u) = net.relax(e, former, totals) {
             let wire = e as u8;
-            e += 1;
-            if sum.below(totals[u]) {
-                totals[u] = sum;
-                choices[Layout::NODES * k + u] = wire;
-                fell = u;
-            }
-            continue;
+            choices[Sheet::MOST_NODES * k + u] = wire;
+            fell = u;
         }
-        former = totals;
-        e = 0;
-        k += 1;
+    }
+    fell
+}
+
+// The choices of as many rounds as there are nodes, and a node whose total fell with the last.
+fn keep(net: &Net, choices: &mut [u8]) -> usize
+    requires does_not_fold { foldable (net_of net.now) ≡ false }
+    requires room { most_nodes * most_nodes ≤ length choices.old }
+    ensures { Kept (net_of net.now) choices.new result }
+{
+    // The empty walk counts 0.
+    let mut totals = [Iterations::ZERO; Sheet::MOST_NODES];
+    let mut fell = 0;
+    for k in 0..net.nodes {
+        let former = totals;
+        fell = choose(net, k, &former, &mut totals, choices);
     }
     fell
 }
 
 // The choices followed back from node `first`, one for each round.
-fn follow(b: &[u8], at: usize, nodes: usize, choices: &[u8], first: usize, walk: &mut [u8])
-    requires backed { Backed b.now at choices.now nodes first }
-    requires nodes_in_bounds { most_nodes * nodes ≤ length choices.now }
-    requires nodes_in_bounds_2 { nodes ≤ length walk.old }
-    ensures { take nodes walk.new ≡ back b.now at choices.now nodes first }
+fn follow(net: &Net, choices: &[u8], first: usize, walk: &mut [u8])
+    requires backed { Backed (net_of net.now) choices.now net.now.nodes first }
+    requires nodes_in_bounds { most_nodes * net.now.nodes ≤ length choices.now }
+    requires nodes_in_bounds_2 { net.now.nodes ≤ length walk.old }
+    ensures { take net.now.nodes walk.new ≡ back (net_of net.now) choices.now net.now.nodes first }
 {
     let mut u = first;
-    let mut i = 0;
-    while i < nodes {
-        let row = Layout::NODES * (nodes - 1 - i);
+    for i in 0..net.nodes {
+        let row = Sheet::MOST_NODES * (net.nodes - 1 - i);
         let wire = choices[row + u];
         walk[i] = wire;
-        u = end_at(b, at, wide(wire), Layout::TO);
-        i += 1;
+        u = net.to(usize::from(wire));
     }
 }
 
-// Room for a choice of every node and round.
-fn no_choices() -> [u8; Layout::NODES * Layout::NODES] {
-    [0u8; Layout::NODES * Layout::NODES]
-}
-
 // A walk of as many wires as there are nodes, with a total below that of all shorter walks.
-pub fn fall(
-    b: &[u8],
-    at: usize,
-    wires: usize,
-    nodes: usize,
-    bounds: [Iterations; Layout::WIRES],
-    walk: &mut [u8],
-)
-    requires wired { Wired b.now at nodes wires }
-    requires moderate { Moderate (bytes_net b.now at nodes wires bounds) }
-    requires bounds_value { foldable (bytes_net b.now at nodes wires bounds) ≡ false }
+pub fn fall(net: &Net, walk: &mut [u8])
+    requires does_not_fold { foldable (net_of net.now) ≡ false }
     requires most_nodes_in_bounds { most_nodes ≤ length walk.old }
-    ensures { Falling (bytes_net b.now at nodes wires bounds) (take nodes walk.new) }
+    ensures { Falling (net_of net.now) (take net.now.nodes walk.new) }
 {
-    let made = no_choices();
-    let mut choices = made;
-    let first = keep(b, at, wires, nodes, bounds, &mut choices);
-    follow(b, at, nodes, &choices, first, walk);
+    let mut choices = [0u8; Sheet::MOST_NODES * Sheet::MOST_NODES];
+    let first = keep(net, &mut choices);
+    follow(net, &choices, first, walk);
 }

@@ -8,13 +8,7 @@ use lib.IntN.{ℤ, pos, neg_ℤ, ◌+ℤ◌, nat_abs}
 use lib.Signed.{◌<ℤ◌}
 use Rattle.words.specs.Loops.{tab}
 use Rattle.folding.specs.Walks.{Net, Walk, along, Absent, Once, Loop, better, next, row, stays, settled, settles, chain, foldable, latest, deepest, starts}
-
-pub record Alike (g g' : Net) : Type 0 where
-  pub nodes : g.nodes ≡ g'.nodes
-  pub wires : g.wires ≡ g'.wires
-  pub from : (e : ℕ) → e < g.wires → g.from e ≡ g'.from e
-  pub to : (e : ℕ) → e < g.wires → g.to e ≡ g'.to e
-  pub bound : (e : ℕ) → e < g.wires → g.bound e ≡ g'.bound e
+use Rattle.folding.specs.Alike.{Alike}
 
 pub tab_cong : {A : Type 0} (n : ℕ) (f f' : ℕ → A) → ((i : ℕ) → i < n → f i ≡ f' i) → tab n f ≡ tab n f'
 unfolding tab

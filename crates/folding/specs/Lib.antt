@@ -3,6 +3,7 @@ pub mod Walks
 pub mod Latest
 pub mod Folding
 pub mod Lifetime
--- Only passes between functions: one node's total after k rounds, and where a slot's first live cycle falls.
+-- Only passes between functions: one node's total after k rounds, where a slot's first live cycle falls, and nets that say the same.
 pub mod Round
 pub mod Offset
+pub mod Alike

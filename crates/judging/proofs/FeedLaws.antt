@@ -1,6 +1,6 @@
 -- A plan's inputs are fed once exactly where the masks say so. Assumes nothing.
 use mathlib.Core.Path.{◌≡◌, refl, sym, ap, subst, ◌∙◌}
-use mathlib.Core.Bool.{Bool, true, false, not, ◌&&◌, and-false}
+use mathlib.Core.Bool.{Bool, not, ◌&&◌}
 use mathlib.Core.List.{List}
 use Prim.Native.Nat.{ℕ, ◌<◌}
 use native.Mathlib.Omega.{arith}
@@ -50,21 +50,8 @@ fed_by_masks b p h masks occ f fed r e =
     (s.node, s.is_node, sym (eqb-true m.unit v.unit t.0), sym (eqb-true m.slot v.slot t.1), s.input_fits))
     (λ x i e hx he. refl)
 
--- ---- the three outcomes of the code's tests
-
-module _ (b : List ℕ) (p : Header) (h : Held b p) (masks : List ℕ) (occ : Occupied (plan_read b) masks) (f : Fed) (fed : FedOf p.wires (input_of (plan_read b)) f) where
-  by_masks : (r : Run) → r ≡ unit_run plan_format p.units → fed_fault (plan_read b) ≡ unless (units_fed r.count (units_in_run b r) masks f.masks && not f.twice) 5
-  unfolding fed_fault
-  by_masks r e = ap (λ (t : Bool). unless t 5) (sym (fed_by_masks b p h masks occ f fed r e))
-
-  pub fed_twice : f.twice ≡ true → fed_fault (plan_read b) ≡ 5
-  fed_twice t =
-      let r = unit_run plan_format p.units in
-      by_masks r refl ∙ rw (t, and-false (units_fed r.count (units_in_run b r) masks f.masks)) refl
-
-  module _ (r : Run) (e : r ≡ unit_run plan_format p.units) (all : Bool) (is : all ≡ units_fed r.count (units_in_run b r) masks f.masks) where
-    pub fed_missing : all ≡ false → fed_fault (plan_read b) ≡ 5
-    fed_missing t = by_masks r e ∙ rw (sym is ∙ t) refl
-
-    pub fed_all : f.twice ≡ false → all ≡ true → fed_fault (plan_read b) ≡ 0
-    fed_all t u = by_masks r e ∙ rw (sym is ∙ u, t) refl
+-- the fault of the inputs, by the masks
+pub fed_is : (b : List ℕ) (p : Header) → Held b p → (masks : List ℕ) → Occupied (plan_read b) masks → (f : Fed) → FedOf p.wires (input_of (plan_read b)) f →
+    (r : Run) → r ≡ unit_run plan_format p.units → fed_fault (plan_read b) ≡ unless (units_fed r.count (units_in_run b r) masks f.masks && not f.twice) 5
+unfolding fed_fault
+fed_is b p h masks occ f fed r e = ap (λ (t : Bool). unless t 5) (sym (fed_by_masks b p h masks occ f fed r e))

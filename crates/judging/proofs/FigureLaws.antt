@@ -16,7 +16,8 @@ use lib.Seq.{get_or-set_same, get_or-set_other}
 use borrow.Author.Tests.{leb-true, leb-false, eq-eqb, ne_eqb}
 use Rattle.times.specs.declared.Cycles.{Cycles}
 use Rattle.words.specs.Loops.{largest}
-use Rattle.times.specs.Times.{eqZ}
+use Rattle.std.proofs.Common.{int_eq}
+use Rattle.times.proofs.OrderLaws.{equal_pos}
 use Rattle.words.proofs.LoopLaws.{passed?}
 use Rattle.records.specs.declared.Node.{Node}
 use Rattle.slots.specs.declared.Slots.{Slots}
@@ -74,13 +75,13 @@ ones_most p q tap mask f = omega (arith, f.ones_are, occupied_most p.fold (lengt
 module _ (b : List ℕ) (p : Header) where
   -- as the code compares them
   pub figures_so : Whole b p → (q : ℕ) → q < p.units → (tap line : ℤ) (mask idle o : ℕ) → o ≡ 9 + 7 * q → UnitFigures (plan_read b) q tap mask →
-      line ≡ pos (two b (o + 4)) → idle ≡ at b (o + 6) → (eqZ line tap && eqb idle (p.fold - ones mask)) ≡ unit_right (plan_read b) q
+      line ≡ pos (two b (o + 4)) → idle ≡ at b (o + 6) → (int_eq line tap && eqb idle (p.fold - ones mask)) ≡ unit_right (plan_read b) q
   figures_so w q l tap line mask idle o eo f e_line e_idle =
       let pl = plan_read b in
       let line_is : line ≡ pos (unit_in pl q).line = e_line ∙ ap (λ (o : ℕ). pos (two b (o + 4))) eo ∙ sym (ap (λ (u : PlanUnit). pos u.line) (unit_so b p w q l)) in
       let idle_is : idle ≡ (unit_in pl q).idle = e_idle ∙ ap (λ (o : ℕ). at b (o + 6)) eo ∙ sym (ap (λ (u : PlanUnit). u.idle) (unit_so b p w q l)) in
       let less : p.fold - ones mask ≡ idle_slots pl q = ap₂ (λ (n k : ℕ). n - k) (folds_so b p w) f.ones_are in
-      ap₂ (λ (x y : Bool). x && y) (ap₂ eqZ line_is f.tap_is) (ap₂ eqb idle_is less)
+      ap₂ (λ (x y : Bool). x && y) (ap₂ int_eq line_is f.tap_is ∙ equal_pos (unit_in pl q).line (longest_tap (length pl.switches) (switch_in pl) q)) (ap₂ eqb idle_is less)
 
   -- by the largest taps and the masks
   pub figures_of : Held b p → (taps : List Cycles) (masks : List ℕ) → TapsOf (plan_read b) p.wires taps → Occupied (plan_read b) masks →

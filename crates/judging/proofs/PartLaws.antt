@@ -1,30 +1,28 @@
 -- A plan's first fault is that of its parts in 01's order: the header; the length, units and nodes; the switches; 4, 5 and 9.
 -- Assumes nothing.
-use mathlib.Core.Path.{◌≡◌, refl, sym, ap, ap₂, ◌∙◌}
+use mathlib.Core.Path.{◌≡◌, refl, ap, ap₂, ◌∙◌}
 use mathlib.Core.Bool.{Bool, true, false, ◌&&◌}
 use mathlib.Core.List.{List}
 use Prim.Native.Nat.{ℕ, zero, suc, ◌<◌}
 use lib.Dec.{leb, eqb}
 use lib.ListN.{length}
+use Rattle.std.specs.Prelude.{Ok, Err}
 use Rattle.words.specs.Loops.{first, unless, ◌then◌}
 use Rattle.words.proofs.FaultLaws.{then_split, then_assoc, first_at}
 use Rattle.records.specs.declared.Unit.{Unit}
 use Rattle.records.specs.declared.Node.{Node}
 use Rattle.records.specs.declared.reading.Reason.{Reason}
-use Rattle.records.specs.declared.reading.Judged.TheVariants as J
 use Rattle.records.specs.Units.{unit_fits}
 use Rattle.records.specs.Records.{at, units_in, nodes_in, wires_in, counts_fit, unit_place, node_place, whole_length, unit_at, node_at, marked, record_fault, reading_fault, node_fits}
 use Rattle.records.specs.Answers.{judged, header_fault, front_fault}
 use Rattle.records.proofs.ReadingLaws.{record_split}
-use Rattle.records.proofs.AnswerLaws.{refused_last, refused_first}
+use Rattle.records.proofs.AnswerLaws.{got_none, refused_last, refused_first}
 use Rattle.records.proofs.FrontLaws.{front_same, node_same, front_whole, front_nodes}
 use Rattle.plans.specs.declared.Plan.{Plan as Header}
 use Rattle.plans.specs.Plan.{PlanUnit, PlanNode, unit_in, node_in, plan_format, plan_read}
 use Rattle.plans.specs.Heads.{plan_head}
 use Rattle.plans.specs.Judging.{most_chain, plan_faults, plan_fault}
 use Rattle.plans.proofs.ReadLaws.{fold_read, units_read, unit_read, node_read}
-use Rattle.judging.specs.declared.PlanRead.TheVariants as P
-use Rattle.judging.proofs.HeadLaws.{head_first, head_none}
 use Rattle.judging.specs.Answers.{plan_answer, head_fault, header_answer, switch_fault, switches_fault, clash_fault, fed_fault, figures_fault, nodes_fault, HeaderSaid, Fronted, Held}
 
 -- ---- the parts
@@ -81,14 +79,14 @@ module _ (b : List ℕ) where
 
   -- ---- the answer, part by part
 
-  pub head_refused : (why : Reason) → header_answer b ≡ P.Refused why → P.Refused why ≡ plan_answer b
+  pub head_refused : (why : Reason) → header_answer b ≡ Err why → plan_answer b ≡ Err why
   unfolding header_answer plan_answer
-  head_refused why e = rw parts (sym (head_first (head_fault b) (front_fault plan_format b then (switches_fault b then nodes_fault (plan_read b))) (plan_head b) why e))
+  head_refused why e = rw parts (refused_first (plan_head b) (plan_head b) (head_fault b) (front_fault plan_format b then (switches_fault b then nodes_fault (plan_read b))) why e)
 
-  pub head_got : (p : Header) → header_answer b ≡ P.Got p → (head_fault b ≡ 0) × HeaderSaid b p
+  pub head_got : (p : Header) → header_answer b ≡ Ok p → (head_fault b ≡ 0) × HeaderSaid b p
   unfolding header_answer
   head_got p e =
-      let h = head_none (head_fault b) (plan_head b) p e in
+      let h = got_none (plan_head b) p (head_fault b) e in
       let c = then_split (header_fault b plan_format.header_length plan_format.header_mark) (unless (leb (at b 8) most_chain) 3) h.0 in
       let t = then_split (unless (leb plan_format.header_length (length b)) 1) (record_fault b 0 plan_format.header_mark (counts_fit b)) c.0 in
       (h.0, record { said = h.1; counts = (record_split b 0 plan_format.header_mark (counts_fit b) t.1).1 })
@@ -97,21 +95,21 @@ module _ (b : List ℕ) where
     after_head : plan_fault b ≡ (front_fault plan_format b then (switches_fault b then nodes_fault (plan_read b)))
     after_head = parts ∙ ap (λ (a : ℕ). a then (front_fault plan_format b then (switches_fault b then nodes_fault (plan_read b)))) z
 
-    pub front_refused : (why : Reason) → judged (front_fault plan_format b) ≡ J.Refused why → P.Refused why ≡ plan_answer b
+    pub front_refused : (why : Reason) → judged (front_fault plan_format b) ≡ Err why → plan_answer b ≡ Err why
     unfolding plan_answer
-    front_refused why e = rw after_head (sym (refused_first (P.Got (plan_head b)) P.Refused (front_fault plan_format b) (switches_fault b then nodes_fault (plan_read b)) why e))
+    front_refused why e = rw after_head (refused_first tt (plan_head b) (front_fault plan_format b) (switches_fault b then nodes_fault (plan_read b)) why e)
 
     module _ (y : front_fault plan_format b ≡ 0) where
       after_front : plan_fault b ≡ (switches_fault b then nodes_fault (plan_read b))
       after_front = after_head ∙ ap (λ (a : ℕ). a then (switches_fault b then nodes_fault (plan_read b))) y
 
-      pub rest_refused : (why : Reason) → judged (switches_fault b then nodes_fault (plan_read b)) ≡ J.Refused why → P.Refused why ≡ plan_answer b
+      pub rest_refused : (why : Reason) → judged (switches_fault b then nodes_fault (plan_read b)) ≡ Err why → plan_answer b ≡ Err why
       unfolding plan_answer
-      rest_refused why e = rw after_front (sym (refused_last (P.Got (plan_head b)) P.Refused (switches_fault b then nodes_fault (plan_read b)) why e))
+      rest_refused why e = rw after_front (refused_last tt (plan_head b) (switches_fault b then nodes_fault (plan_read b)) why e)
 
-      pub all_passed : (p : Header) → p ≡ plan_head b → (switches_fault b then nodes_fault (plan_read b)) ≡ 0 → P.Got p ≡ plan_answer b
+      pub all_passed : (switches_fault b then nodes_fault (plan_read b)) ≡ 0 → plan_answer b ≡ Ok (plan_head b)
       unfolding plan_answer
-      all_passed p e x = rw (after_front, x) (ap P.Got e)
+      all_passed x = rw (after_front, x) refl
 
   -- ---- what parts without fault have shown
 

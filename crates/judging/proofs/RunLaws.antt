@@ -1,14 +1,14 @@
 -- The runs of a plan's records: they lie in the bytes, and what is read there is the plan's. Assumes nothing.
-use mathlib.Core.Path.{◌≡◌, refl, sym, ap, subst⁻¹}
+use mathlib.Core.Path.{◌≡◌, refl, sym, ap}
 use mathlib.Core.List.{List}
-use Prim.Native.Nat.{ℕ, ◌+◌, ◌*◌, ◌^◌, ◌<◌, ◌≤◌}
+use Prim.Native.Nat.{ℕ, ◌+◌, ◌*◌, ◌<◌}
 use native.Mathlib.Omega.{arith}
 use lib.ListN.{length}
 use Rattle.records.specs.declared.reading.Run.{Run}
-use Rattle.records.specs.Records.{fold_in, units_in, nodes_in, wire_place, whole_length, marked}
+use Rattle.records.specs.Records.{wire_place, marked}
 use Rattle.records.specs.Answers.{unit_part, node_part, place, mark_of, unit_run, node_run, wire_run, Inside, units_in_run, nodes_in_run, parts_fault, front_fault}
-use Rattle.records.proofs.ReadingLaws.{counts_split}
-use Rattle.records.proofs.AnswerLaws.{in_run, units_inside, nodes_inside}
+use Rattle.records.proofs.AnswerLaws.{units_inside, nodes_inside}
+use Rattle.records.proofs.FrontLaws.{front_said}
 use Rattle.plans.specs.declared.Plan.{Plan as Header}
 use Rattle.plans.specs.Plan.{PlanUnit, PlanNode, unit_in, node_in, plan_format, plan_read}
 use Rattle.plans.specs.Heads.{Whole}
@@ -18,31 +18,11 @@ use Rattle.judging.specs.Answers.{HeaderSaid}
 -- ---- what the header says, put into the records' judging
 
 module _ (b : List ℕ) (p : Header) (h : HeaderSaid b p) where
-  pub whole_below : (r : Run) → r ≡ wire_run plan_format p.units p.nodes p.wires → place r r.count < 2 ^ 64
-  whole_below r e =
-      let c = counts_split b h.counts in
-      let u = ap (λ (p : Header). p.units) h.said in
-      let n = ap (λ (p : Header). p.nodes) h.said in
-      let w = ap (λ (p : Header). p.wires) h.said in
-      rw e (omega (arith, c.units_most, c.nodes_most, c.wires_most))
-
-  module _
-      (whole : ℕ) (ws us ns : Run) (ew : ws ≡ wire_run plan_format p.units p.nodes p.wires) (e : whole ≡ place ws ws.count)
-      (eu : us ≡ unit_run plan_format p.units) (en : ns ≡ node_run plan_format p.units p.nodes)
-    where
-      pub runs_inside : Inside unit_part us whole × Inside node_part ns whole
-      runs_inside =
-          rw (e, ew, eu, en)
-          (units_inside plan_format p.units p.nodes p.wires unit_part (omega arith), nodes_inside plan_format p.units p.nodes p.wires node_part (omega arith))
-
-      pub front_said : parts_fault b whole p.fold us ns ≡ front_fault plan_format b
-      unfolding front_fault
-      front_said =
-          rw (e, ew, eu, en)
-          (subst⁻¹
-          (λ (p : Header). parts_fault b (place (wire_run plan_format p.units p.nodes p.wires) p.wires) p.fold (unit_run plan_format p.units)
-          (node_run plan_format p.units p.nodes)
-          ≡ parts_fault b (whole_length plan_format b) (fold_in b) (unit_run plan_format (units_in b)) (node_run plan_format (units_in b) (nodes_in b))) h.said refl)
+  pub plan_front : (whole : ℕ) (us ns ws : Run) → whole ≡ place ws ws.count → us ≡ unit_run plan_format p.units →
+      ns ≡ node_run plan_format p.units p.nodes → ws ≡ wire_run plan_format p.units p.nodes p.wires → parts_fault b whole p.fold us ns ≡ front_fault plan_format b
+  plan_front whole us ns ws whole_is us_is ns_is ws_is =
+      front_said plan_format b p.fold p.units p.nodes p.wires whole us ns ws (ap (λ (p : Header). p.fold) h.said) (ap (λ (p : Header). p.units) h.said) (ap (λ (p : Header). p.nodes) h.said)
+      (ap (λ (p : Header). p.wires) h.said) ws_is whole_is us_is ns_is
 
 -- ---- bytes that are as long as the header says
 
@@ -55,9 +35,6 @@ module _ (b : List ℕ) (p : Header) (w : Whole b p) where
 
   pub node_room : (r : Run) → r ≡ node_run plan_format p.units p.nodes → Inside node_part r (length b)
   node_room r e = rw (e, long) (nodes_inside plan_format p.units p.nodes p.wires node_part (omega arith))
-
-  pub unit_ends : (r : Run) → r ≡ unit_run plan_format p.units → (q : ℕ) → q < p.units → place r q + unit_part ≤ length b
-  unit_ends r e q l = in_run unit_part r (length b) q (unit_room r e) (omega (arith, ap (λ (r : Run). r.count) e))
 
   pub unit_got : (r : Run) → r ≡ unit_run plan_format p.units → (q : ℕ) → q < p.units → units_in_run b r q ≡ (unit_in (plan_read b) q).unit
   unit_got r e q l = rw e (sym (ap (λ (u : PlanUnit). u.unit) (unit_so b p w q l)))

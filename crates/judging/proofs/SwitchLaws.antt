@@ -3,13 +3,14 @@ use mathlib.Core.Path.{◌≡◌, refl, sym, ap, ◌∙◌}
 use mathlib.Core.Logic.{inl, inr}
 use mathlib.Core.Bool.{Bool, false, not, ◌&&◌, and-true, and-false, and_assoc}
 use mathlib.Core.List.{List}
-use Prim.Native.Nat.{ℕ, zero, suc, ◌+◌, ◌*◌, ◌<◌, ◌≤◌}
+use Prim.Native.Nat.{ℕ, ◌+◌, ◌*◌, ◌<◌, ◌≤◌}
 use native.Mathlib.Decide.{dec_le, ℕ_discrete}
 use native.Mathlib.Omega.{arith}
 use lib.Dec.{ltb, leb, eqb}
 use lib.ListN.{length, get_or, set}
 use lib.Seq.{get_or-set_same, get_or-set_other}
 use borrow.Author.Tests.{lt-ltb, le-ltb, eqb-true}
+use Rattle.std.specs.Prelude.{Ok}
 use Rattle.words.specs.Loops.{some_of, unless}
 use Rattle.words.specs.Masks.{in_mask}
 use Rattle.words.proofs.LoopLaws.{passed?, and_split, some_of_cong, some_and}
@@ -19,10 +20,9 @@ use Rattle.slots.specs.declared.Slots.{Slots}
 use Rattle.slots.specs.declared.feeding.Input.{Input}
 use Rattle.slots.specs.Slots.{Masked, SlotsOf}
 use Rattle.slots.specs.Feeding.{InputMasked}
-use Rattle.records.proofs.ReadingLaws.{Counts, counts_split, record_le, record_split}
-use Rattle.records.specs.Answers.{answer}
+use Rattle.records.proofs.ReadingLaws.{Counts, counts_split, record_split}
 use Rattle.records.proofs.NodeLaws.{NodeFits, node_split, inputs_few}
-use Rattle.records.proofs.AnswerLaws.{number_answer}
+use Rattle.records.proofs.AnswerLaws.{got_none}
 use Rattle.plans.specs.declared.Plan.{Plan as Header}
 use Rattle.plans.specs.declared.Joint.{Joint}
 use Rattle.plans.specs.Plan.{Plan, Switch, unit_in, node_in, switch_in, plan_format, plan_read}
@@ -32,9 +32,7 @@ use Rattle.plans.proofs.ReadLaws.{fold_read, units_read, nodes_read, switches_re
 use Rattle.plans.proofs.JudgingLaws.{SwitchFits, switch_split}
 use Rattle.plans.proofs.WholeLaws.{folds_so, units_so, nodes_so, switch_so}
 use Rattle.judging.proofs.RunLaws.{switch_place_said}
-use Rattle.judging.specs.declared.switches.SwitchRead.{SwitchRead}
-use Rattle.judging.specs.declared.switches.SwitchRead.TheVariants as S
-use Rattle.judging.specs.Answers.{as_switch, fits_by, switch_fault, switch_number, switch_answer, clash_fault, input_of, Fronted, Held, Occupied, InputsOf}
+use Rattle.judging.specs.Answers.{as_switch, fits_by, switch_fault, switch_answer, clash_fault, input_of, Fronted, Held, Occupied, InputsOf}
 
 -- ---- nodes in their ranges
 
@@ -132,11 +130,6 @@ module _ (b : List ℕ) (p : Header) (f : Fronted b p) where
         one_of = omega (arith, g.input_fits, inputs_few (kind_of n.op));
       }
 
--- the code's test of a switch whose unit and slot are in range
-pub fits_both : (p : Header) (masks few : List ℕ) (j : Joint) (taken : Bool) → j.unit < p.units → j.slot < p.fold → taken ≡ in_mask (get_or masks j.unit 0) j.slot →
-    (ltb j.source p.units && ltb j.input (get_or few j.unit 0) && taken) ≡ fits_by p masks few j
-fits_both p masks few j taken on turn is = rw (lt-ltb j.unit p.units on, lt-ltb j.slot p.fold turn, is) refl
-
 -- the inputs of one unit more
 pub inputs_more : (p : Plan) (q x : ℕ) (l : List ℕ) → InputsOf p q l → q < length l → x ≡ inputs (unit_in p q).unit.kind → InputsOf p (q + 1) (set l q x)
 inputs_more p q x l before fits is k h = elim (ℕ_discrete k q) [
@@ -171,10 +164,6 @@ module _ (b : List ℕ) (p : Header) (h : Held b p) where
 
 -- ---- the reader's answer
 
-got_none : (f : ℕ) (x j : Joint) → answer (S.Got x) S.Refused f ≡ S.Got j → (j ≡ x) × (f ≡ 0)
-got_none zero x j e = (cc, refl)
-got_none (suc n) x j e = let z : ◌≡◌ {A = ℕ} 0 1 = cc in absurd (omega arith)
-
 joint_input : Joint → Input
 joint_input j = record { unit = j.unit; slot = j.slot; input = j.input }
 
@@ -186,13 +175,13 @@ pub record GotSwitch (b : List ℕ) (e : ℕ) (j : Joint) : Type 0 where
   pub masked : InputMasked (input_of (plan_read b) e)
   pub faultless : switch_fault b e ≡ 0
 
-pub switch_got : (b : List ℕ) (p : Header) → Fronted b p → (e : ℕ) → e < p.wires → (j : Joint) → switch_answer b e ≡ S.Got j → GotSwitch b e j
+pub switch_got : (b : List ℕ) (p : Header) → Fronted b p → (e : ℕ) → e < p.wires → (j : Joint) → switch_answer b e ≡ Ok j → GotSwitch b e j
 unfolding joint_input switch_fault
 switch_got b p f e l j is =
     let pl = plan_read b in
-    let g = got_none (switch_fault b e) (joint_at b (wire_place plan_format b e)) j is in
-    let fit = switch_split pl (switch_in pl e) (record_split b (wire_place plan_format b e) plan_format.wire_mark (switch_fits pl (switch_in pl e)) g.1).1 in
-    let at : j ≡ joint_at b (9 + 7 * p.units + 9 * p.nodes + 8 * e) = g.0 ∙ ap (joint_at b) (sym (switch_place_said b p f.whole e)) in
+    let g = got_none (joint_at b (wire_place plan_format b e)) j (switch_fault b e) is in
+    let fit = switch_split pl (switch_in pl e) (record_split b (wire_place plan_format b e) plan_format.wire_mark (switch_fits pl (switch_in pl e)) g.0).1 in
+    let at : j ≡ joint_at b (9 + 7 * p.units + 9 * p.nodes + 8 * e) = g.1 ∙ ap (joint_at b) (sym (switch_place_said b p f.whole e)) in
     let so = switch_so b p f.whole e l in
     let from : j.source ≡ (switch_in pl e).source = ap (λ (j : Joint). j.source) at ∙ sym (ap (λ (w : Switch). w.source) so) in
     record {
@@ -200,12 +189,5 @@ switch_got b p f e l j is =
       source_is = from;
       few = omega (arith, from, fit.from_unit, units_read b, (counts_of b p f).units_most);
       masked = fit_masked b p f e fit;
-      faultless = g.1;
+      faultless = g.0;
     }
-
--- the number of a reader's answer is its switch's fault
-pub switch_told : (b : List ℕ) (e : ℕ) (a : SwitchRead) → a ≡ switch_answer b e → switch_number a ≡ switch_fault b e
-unfolding switch_fault
-switch_told b e a h =
-    let l = record_le b (wire_place plan_format b e) plan_format.wire_mark (switch_fits (plan_read b) (switch_in (plan_read b) e)) in
-    ap switch_number h ∙ number_answer switch_number _ S.Refused refl (λ _. refl) (switch_fault b e) (omega arith)

@@ -1,52 +1,36 @@
 -- Only passes between functions: what judging bytes as a plan answers, part by part, and what its parts ask. Assumes nothing.
-use Rattle.std.specs.Prelude.{◌≡◌, Bool, true, not, ◌&&◌, List, ℕ, ◌^◌, ◌<◌, ltb, leb, eqb, length, get_or, ℤ, pos}
+use Rattle.std.specs.Prelude.{◌≡◌, Bool, true, not, ◌&&◌, List, ℕ, ◌^◌, ◌<◌, ltb, leb, eqb, length, get_or, ℤ, pos, Result, Ok, Err}
 use Rattle.std.specs.Int.Count.{ones}
 use Rattle.times.specs.declared.Cycles.{Cycles}
 use Rattle.words.specs.Loops.{some_of, first, unless, ◌then◌}
 use Rattle.words.specs.Masks.{in_mask}
 use Rattle.records.specs.Units.{inputs}
-use Rattle.records.specs.declared.reading.HeaderRead.{HeaderRead}
-use Rattle.records.specs.declared.reading.HeaderRead.TheVariants as H
-use Rattle.records.specs.declared.reading.Judged.TheVariants as J
+use Rattle.records.specs.declared.reading.Reason.{Reason}
 use Rattle.slots.specs.declared.feeding.Input.{Input}
 use Rattle.slots.specs.Feeding.{FedOf}
 use Rattle.records.specs.Records.{at, nodes_in, wires_in, counts_fit, wire_place, record_fault, node_fits, clashes, runs_in, occupied, fed_once}
-use Rattle.records.specs.Answers.{reason_number, answer, judged, header_fault}
+use Rattle.records.specs.Answers.{answered, judged, header_fault}
 use Rattle.plans.specs.declared.Plan.{Plan as Header}
 use Rattle.plans.specs.declared.Joint.{Joint}
 use Rattle.plans.specs.Plan.{Plan, Switch, unit_in, node_in, switch_in, plan_format, plan_read}
 use Rattle.plans.specs.Heads.{plan_head, joint_at, Whole}
 use Rattle.plans.specs.Judging.{most_chain, switch_fits, plan_feeds, longest_tap, idle_slots, figures_right, plan_fault}
-use Rattle.judging.specs.declared.PlanRead.{PlanRead}
-use Rattle.judging.specs.declared.PlanRead.TheVariants as P
 use Rattle.judging.specs.declared.switches.Joined.{Joined}
-use Rattle.judging.specs.declared.switches.SwitchRead.{SwitchRead}
-use Rattle.judging.specs.declared.switches.SwitchRead.TheVariants as S
 
 -- ---- the whole judging
 
--- 01's number for each answer, 0 for a plan
-abbrev pub plan_number : PlanRead → ℕ
-plan_number (P.Got p) = 0
-plan_number (P.Refused why) = reason_number why
-
 -- "Each call ends in its result or one numbered refusal": the plan that the header says, or the reason of the first fault
-unfoldable pub plan_answer : List ℕ → PlanRead
-plan_answer b = answer (P.Got (plan_head b)) P.Refused (plan_fault b)
+unfoldable pub plan_answer : List ℕ → Result Header Reason
+plan_answer b = answered (plan_head b) (plan_fault b)
 
 -- ---- its parts, in 01's order
-
--- the header as the records' reader answers it
-abbrev pub plan_got : HeaderRead → PlanRead
-plan_got (H.Got h) = P.Got (record { fold = h.fold; units = h.units; nodes = h.nodes; wires = h.wires })
-plan_got (H.Refused why) = P.Refused why
 
 -- N and the counts, then the chain
 abbrev pub head_fault : List ℕ → ℕ
 head_fault b = header_fault b plan_format.header_length plan_format.header_mark then unless (leb (at b 8) most_chain) 3
 
-unfoldable pub header_answer : List ℕ → PlanRead
-header_answer b = answer (P.Got (plan_head b)) P.Refused (head_fault b)
+unfoldable pub header_answer : List ℕ → Result Header Reason
+header_answer b = answered (plan_head b) (head_fault b)
 
 -- the switches; none of their tests looks at the tap
 abbrev pub as_switch : Joint → Switch
@@ -55,12 +39,8 @@ as_switch j = record { unit = j.unit; input = j.input; slot = j.slot; source = j
 unfoldable pub switch_fault : List ℕ → ℕ → ℕ
 switch_fault b e = record_fault b (wire_place plan_format b e) plan_format.wire_mark (switch_fits (plan_read b) (switch_in (plan_read b) e))
 
-abbrev pub switch_number : SwitchRead → ℕ
-switch_number (S.Got j) = 0
-switch_number (S.Refused why) = reason_number why
-
-abbrev pub switch_answer : List ℕ → ℕ → SwitchRead
-switch_answer b e = answer (S.Got (joint_at b (wire_place plan_format b e))) S.Refused (switch_fault b e)
+abbrev pub switch_answer : List ℕ → ℕ → Result Joint Reason
+switch_answer b e = answered (joint_at b (wire_place plan_format b e)) (switch_fault b e)
 
 abbrev pub switches_fault : List ℕ → ℕ
 switches_fault b = first (wires_in b) (switch_fault b)
@@ -127,10 +107,10 @@ pub record Joins (p : Plan) (n : ℕ) (r : Joined) : Type 0 where
   pub fed_so : FedOf n (input_of p) r.fed
   pub taps_so : TapsOf p n r.taps
 
--- the switches' first fault, and what they join where there is none
-pub record JoinedBy (b : List ℕ) (n : ℕ) (r : Joined) : Type 0 where
-  pub judged_is : r.judged ≡ judged (switches_fault b)
-  pub joins : r.judged ≡ J.Passed → Joins (plan_read b) n r
+-- the reason of the switches' first fault, or what they join where there is none
+pub record JoinedBy (b : List ℕ) (n : ℕ) (r : Result Joined Reason) : Type 0 where
+  pub refused : (why : Reason) → r ≡ Err why → judged (switches_fault b) ≡ Err why
+  pub joins : (j : Joined) → r ≡ Ok j → (switches_fault b ≡ 0) × Joins (plan_read b) n j
 
 -- the largest tap that reads unit q, and a mask with a one for each of its occupied slots
 pub record UnitFigures (p : Plan) (q : ℕ) (tap : ℤ) (mask : ℕ) : Type 0 where

@@ -6,6 +6,7 @@ ghost use Rattle.plans.specs.Judging.{figures_right};
 ghost use Rattle.judging.specs.Answers.{Held, Occupied, TapsOf, UnitFigures, unit_right};
 
 use plans::{Plan, idle_at, line_at};
+use records::reading::Header;
 use times::Cycles;
 use words::masks;
 
@@ -18,24 +19,25 @@ fn unit_right(b: &[u8], p: Plan, q: usize, tap: Cycles, mask: u32) -> bool
 {
     let at = p.unit_place(q);
     let idle = p.fold as u32 - masks::occupied(mask);
-    line_at(b, at).same(tap) & (idle_at(b, at) as u32 == idle)
+    (line_at(b, at) == tap) & (idle_at(b, at) as u32 == idle)
 }
 
 // Whether all units' figures are right.
-pub fn figures_right(b: &[u8], p: Plan, taps: [Cycles; 8], occupied: &[u32]) -> bool
+pub fn figures_right(
+    b: &[u8],
+    p: Plan,
+    taps: [Cycles; Header::MOST_UNITS],
+    occupied: &[u32],
+) -> bool
     requires held { Held b.now p }
     requires taps_of { TapsOf (plan_read b.now) p.wires taps }
     requires occupied { Occupied (plan_read b.now) occupied.now }
     ensures { result ≡ figures_right (plan_read b.now) }
 {
-    let units = p.units as usize;
-    let mut q = 0;
-    while q < units {
-        let tap = taps[q];
-        if !unit_right(b, p, q, tap, occupied[q]) {
+    for q in 0..p.units as usize {
+        if !unit_right(b, p, q, taps[q], occupied[q]) {
             return false;
         }
-        q += 1;
     }
     true
 }

@@ -1,4 +1,3 @@
 -- Laws.
 pub mod CountedLaws
 pub mod LiveSums
-pub mod Underway

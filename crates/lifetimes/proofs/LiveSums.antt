@@ -25,7 +25,7 @@ use Rattle.folding.proofs.LiveLaws.{falls_closed}
 use Rattle.folding.proofs.FoldingLaws.{folds_well}
 use Rattle.folding.proofs.SizeLaws.{small_of, last_lt, registers_fit}
 use Rattle.waits.specs.Fine.{Fine, Longest, from_node}
-use Rattle.waits.proofs.FineLaws.{passed_so, sound_so, nodes_so, few_nodes}
+use Rattle.waits.proofs.FineLaws.{passed_so, sound_so, nodes_so, within_so}
 use Rattle.lifetimes.specs.declared.Live.{Live}
 use Rattle.lifetimes.specs.Counts.{wait_of, rounds_of, rest_of, LiveOf}
 
@@ -62,7 +62,7 @@ module _ (b : List ℕ) (s : Head.Sheet) (f : Fine b s) (folds : foldable (net (
   -- node x's longest wait, as the array has it
   pub wait_so : (longest : List Cycles) → Longest b (from_node b) most_nodes longest → (x : ℕ) → x < s.nodes → cycles_at longest x ≡ pos (wait_of b x)
   unfolding longest_wait
-  wait_so longest l x h = l x (omega (arith, few_nodes b s f))
+  wait_so longest l x h = l x (omega (arith, (within_so b s f).few_nodes))
 
   wait_lt : (x : ℕ) → wait_of b x / (sheet_of b).fold < 816
   wait_lt x =
@@ -91,7 +91,7 @@ module _ (b : List ℕ) (s : Head.Sheet) (f : Fine b s) (folds : foldable (net (
   slot_so r l t h = ap₂ (λ (c n : ℕ). c + n) (l.counts_so t h) l.turns_so ∙ sym (live_so t h)
 
   pub slot_fits : (r : Live) → LiveOf b s.nodes r → (t : ℕ) → t < (sheet_of b).fold → get_or r.counts t 0 + r.turns < 2 ^ 32
-  slot_fits r l t h = omega (arith, l.counts_so t h, l.turns_so, rest_le b s.nodes t, rounds_le s.nodes, few_nodes b s f)
+  slot_fits r l t h = omega (arith, l.counts_so t h, l.turns_so, rest_le b s.nodes t, rounds_le s.nodes, (within_so b s f).few_nodes)
 
   -- the largest rest and the whole rounds are the register figure, which fits two bytes
   pub registers_so : (r : Live) → LiveOf b s.nodes r → (largest (sheet_of b).fold (λ t. get_or r.counts t 0) + r.turns ≡ registers (sheet_of b) (start (net (sheet_of b))))

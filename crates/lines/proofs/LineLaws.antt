@@ -12,19 +12,20 @@ use Rattle.plans.proofs.ReadLaws.{fold_read, units_read, nodes_read, switches_re
 use Rattle.plans.proofs.WholeLaws.{units_so, nodes_so, wires_so}
 use Rattle.words.specs.Loops.{joined}
 use Rattle.lines.specs.Text.{head_line, header_line, unit_lines, node_lines, switch_lines, plan_text}
-use Rattle.numerals.specs.Wrote.{Wrote}
-use Rattle.numerals.proofs.WroteLaws.{wrote_nothing, wrote_then, within}
+use Rattle.numerals.specs.declared.Text.{Text}
+use Rattle.numerals.specs.Written.{Written}
+use Rattle.numerals.proofs.WrittenLaws.{written_nothing, written_then, written_within}
 
 module _ (m : ℕ) (f : ℕ → List ℕ) where
-  pub lines_none : (l : List ℕ) (at : ℕ) → Wrote (m * 0) l at (joined 0 f) l at
+  pub lines_none : (t : Text) → Written (m * 0) t (joined 0 f) t
   unfolding joined
-  lines_none l at = within (m * 0) (omega arith) (wrote_nothing l at)
+  lines_none t = written_within (m * 0) (omega arith) (written_nothing t)
 
-  pub lines_more : {i at next last : ℕ} {before mid bs after : List ℕ} → bs ≡ f i → Wrote (m * i) before at (joined i f) mid next → Wrote m mid next bs after last → Wrote (m * (i + 1)) before at (joined (i + 1) f) after last
+  pub lines_more : {i : ℕ} {before mid after : Text} {bs : List ℕ} → bs ≡ f i → Written (m * i) before (joined i f) mid → Written m mid bs after → Written (m * (i + 1)) before (joined (i + 1) f) after
   unfolding joined
-  lines_more {i} e x y = rw (add-one i) (within (m * suc i) (omega arith) (wrote_then x (rw e at y)))
+  lines_more {i} e x y = rw (add-one i) (written_within (m * suc i) (omega arith) (written_then x (rw e at y)))
 
-  pub lines_done : {i at next : ℕ} {before after : List ℕ} (n : ℕ) → i ≤ n → n ≤ i → Wrote (m * i) before at (joined i f) after next → Wrote (m * n) before at (joined n f) after next
+  pub lines_done : {i : ℕ} {before after : Text} (n : ℕ) → i ≤ n → n ≤ i → Written (m * i) before (joined i f) after → Written (m * n) before (joined n f) after
   lines_done {i} n h l x = let e : i ≡ n = omega arith in rw e at x
 
 -- ---- the plan that bytes say

@@ -4,10 +4,11 @@
 
 use listings::listing;
 use plans::Plan;
-use scripts::reading::read_full;
+use scripts::reading::{front, read_full};
+use scripts::showing::print;
 use sheets::Sheet;
 use std::io;
-use text::Texted;
+use text::LONGEST;
 
 // The longest sheet and one byte more, so that a longer one is refused by its length.
 const SHEET: usize = Sheet::HEADER
@@ -22,27 +23,14 @@ const PLAN: usize = Plan::HEADER
     + Plan::NODE * Sheet::MOST_NODES
     + Plan::SWITCH * Sheet::MOST_WIRES;
 
-// The first n bytes of a text.
-fn print(rt: &impl Print, text: &[u8], n: usize) -> io::Result<()> {
-    if n <= text.len() {
-        rt.write_all(&text[..n])?;
-    }
-    Ok(())
-}
-
-fn print_answer(rt: &impl Print, text: &[u8], answer: Texted) -> io::Result<()> {
-    if let Texted::Done(n) = answer {
-        print(rt, text, n)?;
-    }
-    Ok(())
-}
-
 fn main(rt: HostRuntime) -> io::Result<()> {
     let mut sheet = [0u8; SHEET];
     let mut plan = [0u8; PLAN];
-    let mut out = [0u8; Texted::LONGEST];
+    let mut out = [0u8; LONGEST];
     let mut input = rt.stdin();
     let n = read_full(&mut input, &mut sheet)?;
-    let answer = listing(&sheet[..n], &mut plan, &mut out);
-    print_answer(&rt, &out, answer)
+    if let Ok(n) = listing(&sheet[..n], &mut plan, &mut out) {
+        print(&rt, front(&out, n))?;
+    }
+    Ok(())
 }

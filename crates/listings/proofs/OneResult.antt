@@ -7,7 +7,8 @@ use Rattle.records.specs.Records.{over}
 use Rattle.plans.specs.Plan.{loop_bytes}
 use Rattle.planner.proofs.PlanningLaws.{planned_once}
 use Rattle.lines.specs.Text.{loop_text}
-use Rattle.text.specs.declared.Texted.{Texted}
+use Rattle.std.specs.Prelude.{Result}
+use Rattle.text.specs.declared.NoText.{NoText}
 use Rattle.text.specs.Texting.{texted_number, texted_length}
 use Rattle.text.proofs.OneResult.{one_text}
 use Rattle.listings.specs.Listing.{answer_text, Listing}
@@ -19,14 +20,14 @@ loop_in x six = (x.planned.shown six).wire ∷ (x.planned.shown six).wires
 
 -- of two results x and y: the planner's answer is the same; but for 6 all is the same; at 6 all that is not the loop is fixed by it: the
 -- plan buffer has the loop's bytes and then what it had, and where both show one loop all is the same
-pub record OneListing (b plan out : List ℕ) (r s : Texted) (left left' after after' : List ℕ)
+pub record OneListing (b plan out : List ℕ) (r s : Result ℕ NoText) (left left' after after' : List ℕ)
     (x : Listing b plan out (texted_number r) (texted_length r) left after) (y : Listing b plan out (texted_number s) (texted_length s) left' after') : Type 0 where
   pub answered_same : x.answered ≡ y.answered
   pub not_6 : ¬ (x.answered ≡ 6) → (r ≡ s) × (left ≡ left') × (after ≡ after')
   pub at_6 : (six : x.answered ≡ 6) → left ≡ over (loop_bytes (loop_in x six)) plan
   pub one_loop : (six : x.answered ≡ 6) (six' : y.answered ≡ 6) → loop_in x six ≡ loop_in y six' → (r ≡ s) × (left ≡ left') × (after ≡ after')
 
-pub one_listing : (b plan out : List ℕ) (r s : Texted) (left left' after after' : List ℕ)
+pub one_listing : (b plan out : List ℕ) (r s : Result ℕ NoText) (left left' after after' : List ℕ)
     (x : Listing b plan out (texted_number r) (texted_length r) left after) (y : Listing b plan out (texted_number s) (texted_length s) left' after') →
     OneListing b plan out r s left left' after after' x y
 one_listing b plan out r s left left' after after' x y =

@@ -8,9 +8,13 @@ use lib.Dec.{leb, eqb}
 use lib.ListN.{length, get_or, take}
 use lib.Seq.{take_at}
 use borrow.Author.Tests.{lt-ltb, le-leb, eq-eqb}
+use Rattle.std.specs.Prelude.{Result, Ok, Err}
 use Rattle.words.proofs.LoopLaws.{and_join}
 use Rattle.words.proofs.FaultLaws.{first_none}
 use Rattle.records.specs.Records.{at, over, most_nodes, most_wires, between}
+use Rattle.records.specs.Numbers.{reason_number}
+use Rattle.records.proofs.NumberLaws.{by_number}
+use Rattle.lines.specs.Text.{refused_text}
 use Rattle.records.proofs.ByteLaws.{marked_ok}
 use Rattle.sheets.specs.Sheet.{sheet_of}
 use Rattle.sheets.proofs.SheetLaws.{passed, sound_of, counts_of, nodes_is, wires_is}
@@ -21,8 +25,8 @@ use Rattle.loops.proofs.RingLaws.{walk_wire}
 use Rattle.plans.specs.Plan.{plan_bytes, loop_bytes, loop_wire_bytes, loop_mark, concat}
 use Rattle.plans.specs.Judging.{plan_fault}
 use Rattle.plans.proofs.ConcatLaws.{at_concat}
-use Rattle.planner.specs.declared.Planned.{Planned}
-use Rattle.planner.specs.declared.Planned.TheVariants as P
+use Rattle.planner.specs.declared.NoPlan.{NoPlan}
+use Rattle.planner.specs.declared.NoPlan.TheVariants as P
 use Rattle.drawing.specs.PlanOf.{plan_of}
 use Rattle.planner.specs.Planning.{Planning}
 use Rattle.planner.specs.Calls.{planned_number, planned_length}
@@ -85,23 +89,15 @@ module _ (b before : List ℕ) where
       (λ i h. let w = walk_wire (net (sheet_of b)) es _ _ s.loop.closed i h in omega (arith, w, wires_is b, (counts_of b pd).wires_most)))
 
   -- no text of an answer is refused by what the planner left
-  pub said_fine : (a : Planned) (left : List ℕ) → Planning b before (planned_number a) (planned_length a) left → said_fault a left ≡ 0
-  said_fine (P.Done n) left p = plan_fine n left p
-  said_fine P.Length left p = refl
-  said_fine P.Mark left p = refl
-  said_fine P.Range left p = refl
-  said_fine P.Clash left p = refl
-  said_fine P.Unfed left p = refl
-  said_fine (P.Unfoldable n) left p = loop_left n left p
-  said_fine (P.Short n) left p = refl
+  pub said_fine : (a : Result ℕ NoPlan) (left : List ℕ) → Planning b before (planned_number a) (planned_length a) left → said_fault a left ≡ 0
+  said_fine (Ok n) left p = plan_fine n left p
+  said_fine (Err (P.Refused why)) left p = refl
+  said_fine (Err (P.Unfoldable n)) left p = loop_left n left p
+  said_fine (Err (P.Short n)) left p = refl
 
 -- the text by cases is the text by numbers
-pub said_so : (a : Planned) (left : List ℕ) → said_text a left ≡ answer_text (planned_number a) (take (planned_length a) left)
-said_so (P.Done n) left = refl
-said_so P.Length left = refl
-said_so P.Mark left = refl
-said_so P.Range left = refl
-said_so P.Clash left = refl
-said_so P.Unfed left = refl
-said_so (P.Unfoldable n) left = refl
-said_so (P.Short n) left = refl
+pub said_so : (a : Result ℕ NoPlan) (left : List ℕ) → said_text a left ≡ answer_text (planned_number a) (take (planned_length a) left)
+said_so (Ok n) left = refl
+said_so (Err (P.Refused why)) left = sym (by_number (λ n. answer_text n (take 0 left)) (λ why. refused_text (reason_number why)) refl refl refl refl refl refl why)
+said_so (Err (P.Unfoldable n)) left = refl
+said_so (Err (P.Short n)) left = refl

@@ -55,7 +55,7 @@ module _ (g : Net) where
   walk_last (e ∷ (a ∷ es)) u v w zero h = absurd (omega arith)
   walk_last (e ∷ es) u v w (suc p) h = walk_last es (g.to e) v w.2 p (omega arith)
 
-  new_once : (es : List ℕ) (u v : ℕ) → Walk g es u v → ((q : ℕ) → suc q < length es → New g.from g.to es q) → Once g.from es
+  new_once : (es : List ℕ) (u v : ℕ) → Walk g es u v → ((q : ℕ) → suc q < length es → New g es q) → Once g.from es
   new_once es u v w new = once_all g.from es apart
     where
       apart : (p q : ℕ) → p < q → q < length es → ¬ (g.from (get_or es p 0) ≡ g.from (get_or es q 0))
@@ -72,7 +72,7 @@ module _ (g : Net) where
 
   module _ (cl : Closed g) (es : List ℕ) (falling : Falling g es) where
     -- some wire meets a node again
-    pub not_all_new : ((q : ℕ) → q < length es → New g.from g.to es q) → ⊥
+    pub not_all_new : ((q : ℕ) → q < length es → New g es q) → ⊥
     not_all_new new =
         let u = falling.start in
         let v = falling.end in
@@ -87,7 +87,7 @@ module _ (g : Net) where
 
     -- from where it left a node to where it first meets one again
     pub ring_of : (a b : ℕ) → a ≤ b → b < length es → g.from (get_or es a 0) ≡ g.to (get_or es b 0) →
-        ((q : ℕ) → q < b → New g.from g.to es q) → Ring (take (suc b - a) (drop a es))
+        ((q : ℕ) → q < b → New g es q) → Ring (take (suc b - a) (drop a es))
     ring_of a b h l meet new =
         let u = falling.start in
         let v = falling.end in

@@ -7,7 +7,7 @@ use native.Mathlib.Decide.{dec_le}
 use native.Mathlib.Numerals.{add-one}
 use native.Mathlib.Omega.{arith}
 use lib.ListN.{length, get_or, take, drop, set, length-append, length-drop, get_or-append}
-use lib.Seq.{get_or-append-add, get_or-take, get_or-drop, length-take-le, take-suc, take-suc-set, take_all}
+use lib.Seq.{get_or-append-add, get_or-take, get_or-drop, length-take-le, take-suc, take-suc-set}
 
 module _ (es : List ℕ) (low : ℕ) (h : low < length es) where
   abbrev pub turned : List ℕ
@@ -42,7 +42,3 @@ module _ (es : List ℕ) (low : ℕ) (h : low < length es) where
       ∙ ap (λ (x : List ℕ). x ++ (get_or es ((low + q) % length es) 0 ∷ [])) same
       ∙ ap (λ (x : ℕ). take q turned ++ (x ∷ [])) (turned_at q k)
       ∙ sym (take-suc turned q 0 (omega arith)))
-
-  pub turned_all : (q : ℕ) (out : List ℕ) → q ≡ length es → take q out ≡ take q turned → take (length es) out ≡ turned
-  turned_all q out e same =
-      ap (λ (n : ℕ). take n out) (sym e) ∙ same ∙ take_all q turned (let long = turned_long in omega arith)

@@ -8,16 +8,16 @@ use native.Mathlib.Omega.{arith}
 use lib.Dec.{leb, eqb}
 use lib.ListN.{length}
 use borrow.Author.Tests.{le-leb, lt-leb, eq-eqb, ne_eqb}
+use Rattle.std.specs.Prelude.{Ok, Err}
 use Rattle.words.specs.Loops.{unless, ◌then◌}
 use Rattle.records.specs.declared.reading.Reason.{Reason}
 use Rattle.records.specs.Units.{channels}
 use Rattle.records.specs.Records.{at, over}
-use Rattle.records.specs.Answers.{reason_number}
+use Rattle.records.specs.Numbers.{reason_number}
 use Rattle.records.proofs.AnswerLaws.{reason_positive}
 use Rattle.plans.specs.declared.Plan.{Plan as Header}
 use Rattle.plans.specs.Plan.{plan_read}
 use Rattle.plans.specs.Judging.{plan_fault}
-use Rattle.judging.specs.declared.PlanRead.TheVariants as P
 use Rattle.judging.specs.Answers.{plan_answer}
 use Rattle.judging.proofs.AnswerLaws.{why_number, got_fine, got_whole}
 use Rattle.memory.specs.Memory.{size, leaving}
@@ -33,11 +33,15 @@ use Rattle.machine.proofs.SteppingLaws.{room_test, clear_kept, clear_does, clear
 -- ---- the judge's answer
 
 -- a plan that the judge got has no fault
-pub got_taken : (b : List ℕ) (p : Header) → plan_answer b ≡ P.Got p → Taken b p
+pub got_taken : (b : List ℕ) (p : Header) → plan_answer b ≡ Ok p → Taken b p
 got_taken b p e = record { head = (got_whole b p e).said; fine = got_fine b p e }
 
+-- what lines say of the bytes in which they were read
+pub known : (b b' : List ℕ) (p : Header) (words : ℕ) → b' ≡ b → Taken b' p → words ≡ size (plan_read b') → Taken b p × (words ≡ size (plan_read b))
+known b b' p words e t l = rw (← e) (t, l)
+
 -- a reason has the fault's number
-pub why_fault : (b : List ℕ) (why : Reason) → plan_answer b ≡ P.Refused why → (reason_number why ≡ plan_fault b) × (0 < plan_fault b)
+pub why_fault : (b : List ℕ) (why : Reason) → plan_answer b ≡ Err why → (reason_number why ≡ plan_fault b) × (0 < plan_fault b)
 why_fault b why e = let n = why_number b why e in (n, omega (arith, n, reason_positive why))
 
 then_first : (a b : ℕ) → 0 < a → (a then b) ≡ a
@@ -46,7 +50,7 @@ then_first (suc a) b h = refl
 
 -- ---- memory_words
 
-pub needed_refused : (b : List ℕ) (why : Reason) (number words : ℕ) → plan_answer b ≡ P.Refused why → number ≡ reason_number why → words ≡ 0 → Needing b number words
+pub needed_refused : (b : List ℕ) (why : Reason) (number words : ℕ) → plan_answer b ≡ Err why → number ≡ reason_number why → words ≡ 0 → Needing b number words
 needed_refused b why number words e n w =
     let f = why_fault b why e in
     record { number_is = n ∙ f.0; words_is = w ∙ rw (ne_eqb (plan_fault b) 0 (λ z. omega (arith, f.1))) refl }
@@ -60,7 +64,7 @@ module _ (b m : List ℕ) where
   clear_refusal : (number : ℕ) → 0 < number → number ≡ clear_number b m → Clearing b m number m
   clear_refusal number h e = record { number_is = e; memory_is = sym (clear_kept b m (λ z. omega (arith, e))) }
 
-  pub clear_refused : (why : Reason) (number : ℕ) → plan_answer b ≡ P.Refused why → number ≡ reason_number why → Clearing b m number m
+  pub clear_refused : (why : Reason) (number : ℕ) → plan_answer b ≡ Err why → number ≡ reason_number why → Clearing b m number m
   unfolding clear_number
   clear_refused why number e n =
       let f = why_fault b why e in
@@ -84,7 +88,7 @@ module _ (b m c o : List ℕ) where
       let k = step_kept b m c o (λ z. omega (arith, e)) in
       record { number_is = e; memory_is = sym k.0; output_is = sym k.1 }
 
-  pub step_refused : (why : Reason) (number : ℕ) → plan_answer b ≡ P.Refused why → number ≡ reason_number why → Stepping b m c o number m o
+  pub step_refused : (why : Reason) (number : ℕ) → plan_answer b ≡ Err why → number ≡ reason_number why → Stepping b m c o number m o
   unfolding step_number
   step_refused why number e n =
       let f = why_fault b why e in

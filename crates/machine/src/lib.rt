@@ -2,242 +2,131 @@
 // the plan is judged first, then the lent slices, then t, and a refusal changes nothing.
 #![tactic(auto)]
 
-ghost use Rattle.std.specs.Prelude.{◌≡◌};
-ghost use Rattle.records.specs.Answers.{reason_number};
-ghost use Rattle.memory.specs.Taken.{Taken};
+ghost use Rattle.std.specs.Prelude.{◌≡◌, IfOk, IfErr};
+ghost use Rattle.judging.specs.Answers.{plan_answer};
 ghost use Rattle.machine.specs.Stepping.{Clearing, Stepping};
-ghost use Rattle.machine.specs.Calls.{cleared_number, stepped_number, needed_number, needed_words, Needing};
+ghost use Rattle.machine.specs.Calls.{not_cleared_number, not_stepped_number, cleared_number, stepped_number, needed_number, needed_words, Needing};
+ghost use Rattle.machine.specs.declared.NotCleared.TheVariants as C;
+ghost use Rattle.machine.specs.declared.NotStepped.TheVariants as S;
 
 use cycle::results;
-use judging::{PlanRead, judge};
-use memory::lines_of;
+use judging::judge;
+use memory::{FinePlan, Lines};
 use moving::{advance, leave, wipe};
-use plans::Plan;
 use records::Unit;
+use records::answers::Refusal;
 use records::reading::Reason;
 
-// What clear answers: a case for each of the numbers 0 to 5, 7 and 9.
-#[derive(Clone, Copy)]
-pub enum Cleared {
-    Done,
-    Length,
-    Mark,
-    Range,
-    Clash,
-    Unfed,
+// The last cycle number, from which t does not rise.
+pub const LAST_COUNT: u32 = 4294967295;
+
+// Why clear refuses: the plan's reason, or a memory that is too short.
+#[derive(Clone, Copy, Debug, PartialEq, Eq)]
+pub enum NotCleared {
+    Refused(Reason),
     Short,
-    Figures,
 }
 
-// What step answers: a case for each of the numbers 0 to 5 and 7 to 9.
-#[derive(Clone, Copy)]
-pub enum Stepped {
-    Done,
-    Length,
-    Mark,
-    Range,
-    Clash,
-    Unfed,
+// Why step refuses: the plan's reason, a slice that is too short, or the last cycle number.
+#[derive(Clone, Copy, Debug, PartialEq, Eq)]
+pub enum NotStepped {
+    Refused(Reason),
     Short,
     Late,
-    Figures,
 }
 
-// What memory_words answers: the words, or a case for each of the numbers 1 to 5 and 9.
-#[derive(Clone, Copy)]
-pub enum Needed {
-    Words(usize),
-    Length,
-    Mark,
-    Range,
-    Clash,
-    Unfed,
-    Figures,
+impl From<Reason> for NotCleared {
+    ghost from_gives = { λ why e. e ≡ C.Refused why };
+
+    fn from(why: Reason) -> Self {
+        Self::Refused(why)
+    }
 }
 
-impl Cleared {
-    // 01's number.
-    pub fn number(self) -> u32
-        ensures { result ≡ cleared_number self }
-    {
+impl From<Reason> for NotStepped {
+    ghost from_gives = { λ why e. e ≡ S.Refused why };
+
+    fn from(why: Reason) -> Self {
+        Self::Refused(why)
+    }
+}
+
+impl Refusal for NotCleared {
+    ghost number = { not_cleared_number };
+
+    fn number(&self) -> u32 {
         match self {
-            Self::Done => 0,
-            Self::Length => 1,
-            Self::Mark => 2,
-            Self::Range => 3,
-            Self::Clash => 4,
-            Self::Unfed => 5,
+            Self::Refused(why) => why.number(),
             Self::Short => 7,
-            Self::Figures => 9,
         }
     }
 }
 
-impl Stepped {
-    // The last cycle number, from which t does not rise.
-    pub const LAST_COUNT: u32 = 4294967295;
+impl Refusal for NotStepped {
+    ghost number = { not_stepped_number };
 
-    pub fn number(self) -> u32
-        ensures { result ≡ stepped_number self }
-    {
+    fn number(&self) -> u32 {
         match self {
-            Self::Done => 0,
-            Self::Length => 1,
-            Self::Mark => 2,
-            Self::Range => 3,
-            Self::Clash => 4,
-            Self::Unfed => 5,
+            Self::Refused(why) => why.number(),
             Self::Short => 7,
             Self::Late => 8,
-            Self::Figures => 9,
         }
     }
 }
 
-impl Needed {
-    pub fn number(self) -> u32
-        ensures { result ≡ needed_number self }
-    {
-        match self {
-            Self::Words(_) => 0,
-            Self::Length => 1,
-            Self::Mark => 2,
-            Self::Range => 3,
-            Self::Clash => 4,
-            Self::Unfed => 5,
-            Self::Figures => 9,
-        }
-    }
-
-    // The words, 0 with a refusal.
-    pub fn words(self) -> u64
-        ensures { result ≡ needed_words self }
-    {
-        match self {
-            Self::Words(n) => n as u64,
-            Self::Length => 0,
-            Self::Mark => 0,
-            Self::Range => 0,
-            Self::Clash => 0,
-            Self::Unfed => 0,
-            Self::Figures => 0,
-        }
-    }
-}
-
-fn not_cleared(why: Reason) -> Cleared
-    ensures { cleared_number result ≡ reason_number why }
+// The lines of the plan that the bytes are.
+fn lines_of(plan: &[u8]) -> Result<Lines<'_>, Reason>
+    ensures got { IfOk result (λ l. l.plan.b.now ≡ plan.now) }
+    ensures refused { IfErr result (λ why. plan_answer plan.now ≡ Err why) }
 {
-    match why {
-        Reason::Length => Cleared::Length,
-        Reason::Mark => Cleared::Mark,
-        Reason::Range => Cleared::Range,
-        Reason::Clash => Cleared::Clash,
-        Reason::Unfed => Cleared::Unfed,
-        Reason::Figures => Cleared::Figures,
-    }
-}
-
-fn not_stepped(why: Reason) -> Stepped
-    ensures { stepped_number result ≡ reason_number why }
-{
-    match why {
-        Reason::Length => Stepped::Length,
-        Reason::Mark => Stepped::Mark,
-        Reason::Range => Stepped::Range,
-        Reason::Clash => Stepped::Clash,
-        Reason::Unfed => Stepped::Unfed,
-        Reason::Figures => Stepped::Figures,
-    }
-}
-
-fn not_needed(why: Reason) -> Needed
-    ensures { (needed_number result ≡ reason_number why) × (needed_words result ≡ 0) }
-{
-    match why {
-        Reason::Length => Needed::Length,
-        Reason::Mark => Needed::Mark,
-        Reason::Range => Needed::Range,
-        Reason::Clash => Needed::Clash,
-        Reason::Unfed => Needed::Unfed,
-        Reason::Figures => Needed::Figures,
-    }
-}
-
-// Clearing by a plan without fault.
-fn clear_judged(plan: &[u8], p: Plan, memory: &mut [u32]) -> Cleared
-    requires { Taken plan.now p }
-    ensures { Clearing plan.now memory.old (cleared_number result) memory.new }
-{
-    let lines = lines_of(plan, p);
-    let size = lines.size;
-    if memory.len() < size {
-        return Cleared::Short;
-    }
-    wipe(memory, size);
-    Cleared::Done
+    let head = judge(plan)?;
+    Ok(FinePlan { b: plan, head }.lines())
 }
 
 // All words of the plan's memory become 0.
-pub fn clear(plan: &[u8], memory: &mut [u32]) -> Cleared
+pub fn clear(plan: &[u8], memory: &mut [u32]) -> Result<(), NotCleared>
     ensures { Clearing plan.now memory.old (cleared_number result) memory.new }
 {
-    match judge(plan) {
-        PlanRead::Got(p) => clear_judged(plan, p, memory),
-        PlanRead::Refused(why) => not_cleared(why),
+    let words = lines_of(plan)?.words;
+    if memory.len() < words {
+        return Err(NotCleared::Short);
     }
+    wipe(memory, words);
+    Ok(())
 }
 
-// One cycle of a plan without fault: all results are worked out from the memory as it stands, before any place moves.
-fn step_judged(
+// One cycle: the channels' words in, the leaving words out. All results are worked out from the memory as it stands, before any place
+// moves.
+pub fn step(
     plan: &[u8],
-    p: Plan,
     memory: &mut [u32],
     channels: &[u32],
     out: &mut [u32],
-) -> Stepped
-    requires { Taken plan.now p }
+) -> Result<(), NotStepped>
     ensures { Stepping plan.now memory.old channels.now out.old (stepped_number result) memory.new out.new }
 {
-    let lines = lines_of(plan, p);
-    let at = lines.at;
-    if memory.len() < lines.size {
-        return Stepped::Short;
+    let lines = lines_of(plan)?;
+    if memory.len() < lines.words {
+        return Err(NotStepped::Short);
     }
     if channels.len() < Unit::CHANNELS {
-        return Stepped::Short;
+        return Err(NotStepped::Short);
     }
-    if out.len() < p.units as usize {
-        return Stepped::Short;
+    if out.len() < lines.plan.head.units as usize {
+        return Err(NotStepped::Short);
     }
-    if memory[0] == Stepped::LAST_COUNT {
-        return Stepped::Late;
+    if memory[0] == LAST_COUNT {
+        return Err(NotStepped::Late);
     }
-    let words = results(plan, p, &at[..], memory, channels);
-    leave(plan, p, &at[..], memory, out);
-    advance(plan, p, &at[..], memory, &words[..]);
-    Stepped::Done
-}
-
-// One cycle: the channels' words in, the leaving words out.
-pub fn step(plan: &[u8], memory: &mut [u32], channels: &[u32], out: &mut [u32]) -> Stepped
-    ensures { Stepping plan.now memory.old channels.now out.old (stepped_number result) memory.new out.new }
-{
-    match judge(plan) {
-        PlanRead::Got(p) => step_judged(plan, p, memory, channels, out),
-        PlanRead::Refused(why) => not_stepped(why),
-    }
+    let words = results(&lines, memory, channels);
+    leave(&lines, memory, out);
+    advance(&lines, memory, &words);
+    Ok(())
 }
 
 // How many words the plan's memory has.
-pub fn memory_words(plan: &[u8]) -> Needed
+pub fn memory_words(plan: &[u8]) -> Result<usize, Reason>
     ensures { Needing plan.now (needed_number result) (needed_words result) }
 {
-    match judge(plan) {
-        PlanRead::Got(p) => {
-            let lines = lines_of(plan, p);
-            Needed::Words(lines.size)
-        }
-        PlanRead::Refused(why) => not_needed(why),
-    }
+    Ok(lines_of(plan)?.words)
 }

@@ -19,13 +19,13 @@ use Rattle.memory.proofs.TakenLaws.{whole_taken, few_units, places_so, unit_fine
 module _ (b : List ℕ) (p : Head.Plan) (t : Taken b p) where
   -- unit q's places begin where the units' before it end
   pub lines_more : (q : ℕ) → q < p.units → (size n : ℕ) (l : List ℕ) → length l ≡ 8 → size ≡ suc (base (plan_read b) q) →
-      n ≡ at b (9 + 7 * q + 3) + two b (9 + 7 * q + 4) → ((k : ℕ) → k < q → get_or l k 0 ≡ suc (base (plan_read b) k)) →
+      n ≡ places (plan_read b) q → ((k : ℕ) → k < q → get_or l k 0 ≡ suc (base (plan_read b) k)) →
       (size + n ≡ suc (base (plan_read b) (q + 1))) × ((k : ℕ) → k < q + 1 → get_or (set l q size) k 0 ≡ suc (base (plan_read b) k))
   unfolding base
   lines_more q h size n l l8 s e before =
       let pl = plan_read b in
       let next : base pl (q + 1) ≡ base pl q + places pl q = ap (base pl) (add-one q) in (
-        omega (arith, next, places_so b p t q h),
+        omega (arith, next),
         λ k hk. elim (eq-or-lt_of_le hk) [
           | inl same ↦ let k_q : k ≡ q = omega arith in rw k_q (get_or-set_same l q size 0 (omega (arith, few_units b p t)) ∙ s)
           | inr less ↦ get_or-set_other l q k size 0 (λ same. omega arith) ∙ before k (omega arith)
@@ -34,3 +34,8 @@ module _ (b : List ℕ) (p : Head.Plan) (t : Taken b p) where
 
   pub depth_so : (q : ℕ) → q < p.units → ((unit_in (plan_read b) q).unit.depth ≡ at b (9 + 7 * q + 3)) × (0 < (unit_in (plan_read b) q).unit.depth)
   depth_so q h = (ap (λ (u : PlanUnit). u.unit.depth) (unit_so b p (whole_taken t) q h), (unit_fine b p t q h).deep)
+
+  -- the places of a unit, from its depth and the field that its line is read from
+  pub places_are : (q : ℕ) → q < p.units → (n d o line : ℕ) → n ≡ d + line → d ≡ (unit_in (plan_read b) q).unit.depth → o ≡ 9 + 7 * q → line ≡ two b (o + 4) →
+      n ≡ places (plan_read b) q
+  places_are q h n d o line is deep at_o so = omega (arith, is, deep, (depth_so q h).0, rw at_o at so, places_so b p t q h)

@@ -34,6 +34,9 @@ module _ (b : List ℕ) (p : Head.Plan) (t : Taken b p) where
   pub few_units : p.units ≤ 8
   few_units = omega (arith, counts_taken.units_most, units_so b p (whole_taken t), units_read b)
 
+  pub few_nodes : p.nodes ≤ 48
+  few_nodes = omega (arith, counts_taken.nodes_most, nodes_so b p (whole_taken t), nodes_read b)
+
   pub few_wires : p.wires ≤ 96
   few_wires = omega (arith, counts_taken.wires_most, wires_so b p (whole_taken t), switches_read b)
 

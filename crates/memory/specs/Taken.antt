@@ -1,11 +1,10 @@
 -- Only passes between functions: what the parts of a step ask of plan bytes, and where the places stand. Assumes nothing.
-use Rattle.std.specs.Prelude.{◌≡◌, List, ℕ, suc, ◌<◌, ◌≤◌, length, get_or}
+use Rattle.std.specs.Prelude.{◌≡◌, List, ℕ, suc, ◌<◌, length, get_or}
 use Rattle.plans.specs.declared.Plan as Head
-use Rattle.plans.specs.Plan.{Plan, plan_read}
+use Rattle.plans.specs.Plan.{Plan}
 use Rattle.plans.specs.Judging.{plan_fault}
 use Rattle.plans.specs.Heads.{plan_head}
-use Rattle.memory.specs.declared.Lines.{Lines}
-use Rattle.memory.specs.Memory.{base, size}
+use Rattle.memory.specs.Memory.{base}
 
 -- p is the header of the bytes b, which have no fault
 pub record Taken (b : List ℕ) (p : Head.Plan) : Type 0 where
@@ -15,15 +14,3 @@ pub record Taken (b : List ℕ) (p : Head.Plan) : Type 0 where
 -- where the places of each unit begin in memory
 abbrev pub LinesAt : Plan → List ℕ → Type 0
 LinesAt p l = (q : ℕ) → q < length p.units → get_or l q 0 ≡ suc (base p q)
-
--- that, and the memory's words
-pub record LinesOf (p : Plan) (r : Lines) : Type 0 where
-  pub at : LinesAt p r.at
-  pub size_is : r.size ≡ size p
-
--- what a step's parts ask: a plan without fault, where its lines begin, and a memory m with room for them
-pub record Ready (b : List ℕ) (p : Head.Plan) (lines m : List ℕ) : Type 0 where
-  pub taken : Taken b p
-  pub lines_so : LinesAt (plan_read b) lines
-  pub eight : length lines ≡ 8
-  pub room : size (plan_read b) ≤ length m

@@ -1,52 +1,71 @@
 // The machine's memory: where the places of each unit stand, in the words that are lent.
 #![tactic(auto)]
 
-ghost use Rattle.std.specs.Prelude.{◌≡◌, ◌+◌, ◌<◌, ◌≤◌, length};
-ghost use Rattle.records.specs.Records.{at, two};
-ghost use Rattle.plans.specs.Plan.{unit_in, plan_read};
-ghost use Rattle.memory.specs.Taken.{Taken, LinesOf};
+ghost use Rattle.std.specs.Prelude.{◌≡◌, ◌<◌, ◌^◌};
+ghost use Rattle.plans.specs.Plan.{plan_read};
+ghost use Rattle.memory.specs.Memory.{size};
+ghost use Rattle.memory.specs.Taken.{Taken, LinesAt};
 
 use plans::Plan;
+use records::reading::Header;
 
 // The word of every node before its first.
 pub const WORD_BEFORE: u32 = 0;
 
-// Where the places of each unit begin in memory, and how many words the memory has.
+// The bytes of a plan without fault, and what their header says.
 #[derive(Clone, Copy)]
-pub struct Lines {
-    pub at: [usize; 8],
-    pub size: usize,
+pub struct FinePlan<'a> {
+    pub b: &'a [u8],
+    pub head: Plan,
+    pub ghost taken: { Taken b.now head },
 }
 
-// How many places the unit whose record begins at o has.
-pub fn places_at(plan: &[u8], o: usize) -> usize
-    requires { o + 7 ≤ length plan.now }
-    ensures { (result ≡ at plan.now (o + 3) + two plan.now (o + 4)) × (result < 65791) }
-{
-    plans::line_at(plan, o).places(plan[o + 3])
-}
+impl<'a> FinePlan<'a> {
+    ghost use Rattle.plans.specs.Plan.{unit_in, plan_read};
+    ghost use Rattle.memory.specs.Memory.{places};
 
-pub fn lines_of(plan: &[u8], p: Plan) -> Lines
-    requires { Taken plan.now p }
-    ensures { LinesOf (plan_read plan.now) result }
-{
-    let units = p.units as usize;
-    let mut at = [0usize; 8];
-    let mut size = 1;
-    let mut q = 0;
-    while q < units {
-        at[q] = size;
-        size += places_at(plan, p.unit_place(q));
-        q += 1;
+    // The depth of a unit.
+    pub fn depth(&self, q: usize) -> u8
+        requires { q < self.now.head.units }
+        ensures is { result ≡ (unit_in (plan_read self.now.b.now) q).unit.depth }
+        ensures deep { 0 < result }
+    {
+        self.b[self.head.unit_place(q) + 3]
     }
-    Lines { at, size }
+
+    // How many places a unit has.
+    pub fn places(&self, q: usize) -> usize
+        requires { q < self.now.head.units }
+        ensures is { result ≡ places (plan_read self.now.b.now) q }
+        ensures few { result < 2 ^ 32 }
+    {
+        plans::line_at(self.b, self.head.unit_place(q)).places(self.depth(q))
+    }
+
+    // Where the places of the units begin.
+    pub fn lines(&self) -> Lines<'a>
+        ensures { result.plan ≡ self.now }
+    {
+        let mut at = [0; Header::MOST_UNITS];
+        let mut words = 1;
+        for q in 0..usize::from(self.head.units) {
+            at[q] = words;
+            words += self.places(q);
+        }
+        Lines {
+            plan: *self,
+            at,
+            words,
+        }
+    }
 }
 
-// The depth of a unit.
-pub fn depth_of(plan: &[u8], p: Plan, q: usize) -> u8
-    requires taken { Taken plan.now p }
-    requires q_lt_units { q < p.units }
-    ensures { (result ≡ (unit_in (plan_read plan.now) q).unit.depth) × (0 < result) }
-{
-    plan[p.unit_place(q) + 3]
+// Where the places of each unit of a plan begin in memory, and how many words the memory has.
+#[derive(Clone, Copy)]
+pub struct Lines<'a> {
+    pub plan: FinePlan<'a>,
+    pub at: [usize; Header::MOST_UNITS],
+    pub words: usize,
+    pub ghost placed: { LinesAt (plan_read plan.b.now) at },
+    pub ghost long: { words ≡ size (plan_read plan.b.now) },
 }

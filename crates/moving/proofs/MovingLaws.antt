@@ -4,11 +4,10 @@ use mathlib.Core.List.{List, [], ◌∷◌, ◌++◌, append_assoc}
 use Prim.Native.Nat.{ℕ, zero, suc, ◌+◌, ◌-◌, ◌<◌, ◌≤◌}
 use native.Mathlib.Numerals.{add-one}
 use native.Mathlib.Omega.{arith}
-use lib.ListN.{length, get_or, set, take, drop, replicate, length-drop, length-take}
+use lib.ListN.{length, get_or, set, take, drop, length-drop, length-take}
 use lib.Seq.{take_at, drop_at, drop-append-add, drop-drop}
 use Rattle.words.specs.Loops.{tab, joined}
 use Rattle.words.proofs.LoopLaws.{length_tab}
-use Rattle.records.specs.Units.{word_before}
 use Rattle.records.specs.Records.{at, over}
 use Rattle.plans.specs.declared.Plan as Head
 use Rattle.plans.specs.Plan.{Plan, unit_in, plan_read}
@@ -43,11 +42,6 @@ head_leaving p m o out n e is =
     is ∙ ap (λ (n : ℕ). tab n f ++ drop n o) e ∙ ap (λ (k : ℕ). tab (length p.units) f ++ drop k o) (sym (length_tab (length p.units) f))
 
 -- ---- clearing
-
--- a memory filled with the word before, and t at 0
-pub wiped_so : (m now : List ℕ) (n : ℕ) → 0 < n → now ≡ replicate n word_before ++ drop n m → set now 0 0 ≡ wiped m n
-wiped_so m now zero h is = absurd (omega arith)
-wiped_so m now (suc n) h is = rw (is, let e : suc n - 1 ≡ n = omega arith in e) refl
 
 pub cleared_so : (p : Plan) (m : List ℕ) (n : ℕ) → n ≡ size p → wiped m n ≡ cleared p m
 unfolding cleared size

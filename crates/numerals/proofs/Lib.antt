@@ -2,3 +2,4 @@
 pub mod DigitLaws
 pub mod WroteLaws
 pub mod NumberLaws
+pub mod WrittenLaws

@@ -2,3 +2,4 @@
 pub mod Numerals
 -- Only passes between functions: what a writer of them does.
 pub mod Wrote
+pub mod Written

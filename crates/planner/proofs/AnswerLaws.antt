@@ -9,11 +9,12 @@ use borrow.Author.Tests.{le-leb, lt-leb, ne_eqb}
 use Rattle.words.specs.Loops.{unless}
 use Rattle.records.specs.Records.{over}
 use Rattle.records.specs.declared.reading.Reason.{Reason}
-use Rattle.records.specs.Answers.{reason_number}
+use Rattle.records.specs.Answers.{answer_number}
+use Rattle.records.specs.Numbers.{reason_number}
 use Rattle.sheets.specs.declared.Sheet as Head
-use Rattle.sheets.specs.declared.judging.SheetRead.TheVariants as S
+use Rattle.std.specs.Prelude.{Ok, Err}
 use Rattle.sheets.specs.Sheet.{sheet_of, sheet_fault}
-use Rattle.sheets.specs.Answers.{sheet_number, sheet_answer}
+use Rattle.sheets.specs.Answers.{sheet_answer}
 use Rattle.sheets.proofs.SheetLaws.{sheet_fault_le}
 use Rattle.sheets.proofs.AnswerLaws.{number_is, sheet_got, held_of}
 use Rattle.waits.specs.Fine.{Fine}
@@ -26,13 +27,13 @@ use Rattle.planner.specs.Planning.{plan_number, LoopShown, Planning}
 -- ---- the judge's answer
 
 -- a sheet that the judge got has no fault
-pub got_fine : (b : List ℕ) (s : Head.Sheet) → sheet_answer b ≡ S.Got s → Fine b s
+pub got_fine : (b : List ℕ) (s : Head.Sheet) → sheet_answer b ≡ Ok s → Fine b s
 got_fine b s e = let g = sheet_got b s e in record { whole = rw g.1 (held_of b g.0).whole; fine = g.0 }
 
 -- a reason has the fault's number
-pub why_fault : (b : List ℕ) (why : Reason) → sheet_answer b ≡ S.Refused why → (reason_number why ≡ sheet_fault b) × (reason_number why ≤ 5)
+pub why_fault : (b : List ℕ) (why : Reason) → sheet_answer b ≡ Err why → (reason_number why ≡ sheet_fault b) × (reason_number why ≤ 5)
 why_fault b why e =
-    let n : reason_number why ≡ sheet_fault b = ap sheet_number (sym e) ∙ number_is b in
+    let n : reason_number why ≡ sheet_fault b = ap answer_number (sym e) ∙ number_is b in
     (n, omega (arith, n, sheet_fault_le b))
 
 -- ---- what is left

@@ -8,7 +8,7 @@ use lib.Dec.{eqb}
 use borrow.Author.Tests.{lt-ltb, le-ltb, ne_eqb}
 use Rattle.records.specs.declared.reading.Reason.{Reason}
 use Rattle.records.proofs.AnswerLaws.{reason_positive}
-use Rattle.sheets.specs.declared.judging.SheetRead.TheVariants as S
+use Rattle.std.specs.Prelude.{Err}
 use Rattle.sheets.specs.Sheet.{sheet_of, sheet_fault}
 use Rattle.sheets.specs.Answers.{sheet_answer}
 use Rattle.folding.specs.Walks.{start, foldable}
@@ -19,7 +19,7 @@ use Rattle.planner.proofs.AnswerLaws.{why_fault}
 
 module _ (b : List ℕ) (t : ℕ) where
   -- a sheet with a fault
-  pub refused_none : (why : Reason) → sheet_answer b ≡ S.Refused why → 0 ≡ live_in b t
+  pub refused_none : (why : Reason) → sheet_answer b ≡ Err why → 0 ≡ live_in b t
   unfolding live_in
   refused_none why e =
       let f = (why_fault b why e).0 in

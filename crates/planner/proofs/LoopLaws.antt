@@ -8,7 +8,8 @@ use Rattle.records.specs.Records.{over}
 use Rattle.sheets.specs.Sheet.{sheet_of, sheet_fault}
 use Rattle.folding.specs.Walks.{Net, Loop}
 use Rattle.folding.specs.Folding.{net}
-use Rattle.folding.proofs.AlikeLaws.{Alike, loop_cong}
+use Rattle.folding.specs.Alike.{Alike}
+use Rattle.folding.proofs.AlikeLaws.{loop_cong}
 use Rattle.loops.specs.declared.Looped.{Looped}
 use Rattle.loops.specs.Shown.{Shown}
 use Rattle.plans.specs.Plan.{loop_length, loop_bytes}

@@ -5,30 +5,28 @@ use mathlib.Core.Bool.{cond}
 use mathlib.Core.List.{List}
 use Prim.Native.Nat.{ℕ}
 use lib.Dec.{eqb}
-use Rattle.planner.specs.declared.Planned.{Planned}
-use Rattle.planner.specs.declared.Planned.TheVariants as P
+use Rattle.std.specs.Prelude.{Result, Ok, Err}
+use Rattle.records.specs.Answers.{reason_of}
+use Rattle.records.proofs.NumberLaws.{by_number}
+use Rattle.planner.specs.declared.NoPlan.{NoPlan}
+use Rattle.planner.specs.declared.NoPlan.TheVariants as N
 use Rattle.planner.specs.Planning.{Planning}
 use Rattle.planner.specs.Calls.{planned_number, planned_length}
 use Rattle.planner.proofs.PlanningLaws.{planned_once}
 
--- the case of a number and a length
-planned_of : ℕ → ℕ → Planned
-planned_of n len =
-    cond (eqb n 0) (P.Done len) (cond (eqb n 1) P.Length (cond (eqb n 2) P.Mark (cond (eqb n 3) P.Range (cond (eqb n 4) P.Clash (cond (eqb n 5) P.Unfed (cond (eqb n 6) (P.Unfoldable len) (P.Short len)))))))
+-- the answer with a number and a length
+planned_of : ℕ → ℕ → Result ℕ NoPlan
+planned_of n len = cond (eqb n 0) (Ok len) (Err (cond (eqb n 6) (N.Unfoldable len) (cond (eqb n 7) (N.Short len) (N.Refused (reason_of n)))))
 
-planned_back : (r : Planned) → planned_of (planned_number r) (planned_length r) ≡ r
-unfolding planned_of
-planned_back (P.Done n) = refl
-planned_back P.Length = refl
-planned_back P.Mark = refl
-planned_back P.Range = refl
-planned_back P.Clash = refl
-planned_back P.Unfed = refl
-planned_back (P.Unfoldable n) = refl
-planned_back (P.Short n) = refl
+planned_back : (r : Result ℕ NoPlan) → planned_of (planned_number r) (planned_length r) ≡ r
+unfolding planned_of reason_of
+planned_back (Ok n) = refl
+planned_back (Err (N.Unfoldable n)) = refl
+planned_back (Err (N.Short n)) = refl
+planned_back (Err (N.Refused why)) = by_number (λ n. planned_of n 0) (λ why. Err (N.Refused why)) refl refl refl refl refl refl why
 
 -- two answers that are admitted have one number; and but for 6 they are one answer, which leaves one buffer
-pub one_plan : (b before : List ℕ) (r s : Planned) (after other : List ℕ) → Planning b before (planned_number r) (planned_length r) after →
+pub one_plan : (b before : List ℕ) (r s : Result ℕ NoPlan) (after other : List ℕ) → Planning b before (planned_number r) (planned_length r) after →
     Planning b before (planned_number s) (planned_length s) other → (planned_number r ≡ planned_number s) × (¬ (planned_number r ≡ 6) → (r ≡ s) × (after ≡ other))
 one_plan b before r s after other x y =
     let once = planned_once b before (planned_number r) (planned_number s) (planned_length r) (planned_length s) after other x y in

@@ -1,26 +1,21 @@
--- 01's number and length for each case of the planner's answer. Assumes nothing.
-use Rattle.std.specs.Prelude.{ℕ}
-use Rattle.planner.specs.declared.Planned.{Planned}
-use Rattle.planner.specs.declared.Planned.TheVariants as P
+-- 01's number and length of the planner's answer. Assumes nothing.
+use Rattle.std.specs.Prelude.{ℕ, Result, Ok, Err}
+use Rattle.records.specs.Numbers.{number_of, reason_number}
+use Rattle.planner.specs.declared.NoPlan.{NoPlan}
+use Rattle.planner.specs.declared.NoPlan.TheVariants as N
 
 -- column no. of 01's table of refusals
-abbrev pub planned_number : Planned → ℕ
-planned_number (P.Done n) = 0
-planned_number P.Length = 1
-planned_number P.Mark = 2
-planned_number P.Range = 3
-planned_number P.Clash = 4
-planned_number P.Unfed = 5
-planned_number (P.Unfoldable n) = 6
-planned_number (P.Short n) = 7
+abbrev pub no_plan_number : NoPlan → ℕ
+no_plan_number (N.Refused why) = reason_number why
+no_plan_number (N.Unfoldable n) = 6
+no_plan_number (N.Short n) = 7
+
+abbrev pub planned_number : Result ℕ NoPlan → ℕ
+planned_number = number_of no_plan_number
 
 -- "bytes written at 0 and 6, the plan's length at 7, otherwise 0"
-abbrev pub planned_length : Planned → ℕ
-planned_length (P.Done n) = n
-planned_length P.Length = 0
-planned_length P.Mark = 0
-planned_length P.Range = 0
-planned_length P.Clash = 0
-planned_length P.Unfed = 0
-planned_length (P.Unfoldable n) = n
-planned_length (P.Short n) = n
+abbrev pub planned_length : Result ℕ NoPlan → ℕ
+planned_length (Ok n) = n
+planned_length (Err (N.Refused why)) = 0
+planned_length (Err (N.Unfoldable n)) = n
+planned_length (Err (N.Short n)) = n

@@ -1,47 +1,44 @@
 // The live counts behind the register figure, slot by slot, for whoever orders boards by it.
 ghost use Rattle.std.specs.Prelude.{◌≡◌};
-ghost use Rattle.waits.specs.Fine.{Fine};
 ghost use Rattle.planner.specs.Figures.{live_in};
 
-use crate::retime_sheet;
+use crate::net_of;
 use lifetimes::live_counts;
 use sheets::Sheet;
-use sheets::judging::{SheetRead, judge};
+use sheets::judging::judge;
+use starts::retime;
 use times::{Cycles, Iterations};
+use waits::fine::FineSheet;
 
 // The live count of a slot, of a sheet without fault.
 fn live_judged(
-    b: &[u8],
-    sheet: Sheet,
+    sheet: &FineSheet,
     made: [Iterations; Sheet::MOST_WIRES],
     waits: [Cycles; Sheet::MOST_WIRES],
     slot: u8,
 ) -> u32
-    requires { Fine b.now sheet }
-    ensures { result ≡ live_in b.now slot }
+    ensures { result ≡ live_in sheet.now.b.now slot }
 {
-    if sheet.fold <= slot {
+    if sheet.head.fold <= slot {
         return 0;
     }
-    let timed = retime_sheet(b, sheet, made);
-    if !timed.settled {
+    let net = net_of(sheet, made);
+    let Some(timed) = retime(&net) else {
         return 0;
-    }
-    let starts = timed.starts;
-    let waited = waits::waits(b, sheet, starts, waits);
-    let live = live_counts(b, sheet, waited);
-    let counts = live.counts;
-    counts[slot as usize] + live.turns
+    };
+    let waited = waits::waits(sheet, timed.starts, waits);
+    let live = live_counts(sheet, &waited);
+    live.counts[usize::from(slot)] + live.turns
 }
 
 // The live count of a slot, and 0 where there is no plan or no such slot.
 pub fn live_in(sheet: &[u8], slot: u8) -> u32
     ensures { result ≡ live_in sheet.now slot }
 {
-    let bounds = [Iterations::zero(); Sheet::MOST_WIRES];
-    let waits = [Cycles::zero(); Sheet::MOST_WIRES];
-    match judge(sheet) {
-        SheetRead::Got(s) => live_judged(sheet, s, bounds, waits, slot),
-        SheetRead::Refused(_) => 0,
-    }
+    let bounds = [Iterations::ZERO; Sheet::MOST_WIRES];
+    let waits = [Cycles::ZERO; Sheet::MOST_WIRES];
+    let Ok(head) = judge(sheet) else {
+        return 0;
+    };
+    live_judged(&FineSheet { b: sheet, head }, bounds, waits, slot)
 }

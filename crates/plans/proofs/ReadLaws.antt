@@ -1,17 +1,11 @@
 -- Each record of the plan that bytes say is read at its place. Assumes nothing.
-use mathlib.Core.Path.{◌≡◌, refl, ap}
+use mathlib.Core.Path.{◌≡◌, refl}
 use mathlib.Core.List.{List}
-use Prim.Native.Nat.{ℕ, ◌+◌, ◌*◌, ◌<◌}
-use native.Mathlib.Omega.{arith}
+use Prim.Native.Nat.{ℕ, ◌<◌}
 use lib.ListN.{length}
-use lib.IntN.{pos}
 use Rattle.words.proofs.LoopLaws.{length_tab, getD_tab}
-use Rattle.records.specs.Records.{at, two, fold_in, units_in, nodes_in, wires_in, unit_place, node_place, wire_place}
+use Rattle.records.specs.Records.{fold_in, units_in, nodes_in, wires_in, unit_place, node_place, wire_place}
 use Rattle.plans.specs.Plan.{no_unit, no_node, no_switch, unit_in, node_in, switch_in, plan_format, plan_unit_at, plan_node_at, switch_at, plan_read}
-
--- a two-byte field whose second byte is at j
-pub two_at : (b : List ℕ) (o i j : ℕ) → i + 1 ≡ j → pos (at b (o + i) + 256 * at b (o + j)) ≡ pos (two b (o + i))
-two_at b o i j e = ap (λ (k : ℕ). pos (at b (o + i) + 256 * at b k)) (let q : o + j ≡ o + i + 1 = omega arith in q)
 
 module _ (b : List ℕ) where
   pub fold_read : (plan_read b).fold ≡ fold_in b

@@ -7,7 +7,7 @@ ghost use Rattle.records.specs.Answers.{unit_run, node_run, wire_run};
 ghost use Rattle.plans.specs.Plan.{switch_in, plan_format, plan_read};
 ghost use Rattle.plans.specs.Heads.{joint_at, Whole};
 
-use records::reading::Run;
+use records::reading::{Header, Run, two_at};
 use times::{Cycles, Iterations};
 
 // What a plan's header says: N and the counts of units, nodes and switches.
@@ -61,6 +61,8 @@ impl Plan {
     }
 
     // Where the units stand, the nodes behind them, and the switches last.
+    // A sheet's runs differ in the constants alone; a trait for both would state each constant again for its clauses, in the trait and in
+    // both types.
     pub fn unit_run(self) -> Run
         ensures { result ≡ unit_run plan_format self.units }
     {
@@ -76,25 +78,15 @@ impl Plan {
     pub fn node_run(self) -> Run
         ensures { result ≡ node_run plan_format self.units self.nodes }
     {
-        Run {
-            at: Self::HEADER + Self::UNIT * self.units as usize,
-            size: Self::NODE,
-            count: self.nodes as usize,
-            first: Self::MARK,
-            second: Self::NODE_MARK,
-        }
+        self.unit_run()
+            .behind(Self::NODE, self.nodes, Self::NODE_MARK)
     }
 
     pub fn switch_run(self) -> Run
         ensures { result ≡ wire_run plan_format self.units self.nodes self.wires }
     {
-        Run {
-            at: Self::HEADER + Self::UNIT * self.units as usize + Self::NODE * self.nodes as usize,
-            size: Self::SWITCH,
-            count: self.wires as usize,
-            first: Self::MARK,
-            second: Self::SWITCH_MARK,
-        }
+        self.node_run()
+            .behind(Self::SWITCH, self.wires, Self::SWITCH_MARK)
     }
 
     // The slot of a cycle: t mod N.
@@ -128,12 +120,20 @@ impl Plan {
     }
 }
 
+impl From<Header> for Plan {
+    ghost from_gives = { λ h p. p ≡ record { fold = h.fold; units = h.units; nodes = h.nodes; wires = h.wires } };
+
+    fn from(h: Header) -> Plan {
+        Plan::new(h.fold, h.units, h.nodes, h.wires)
+    }
+}
+
 // The line length of the unit, the start of the node and the tap of the switch at a place.
 pub fn line_at(b: &[u8], at: usize) -> Cycles
     requires { at + 6 ≤ length b.now }
     ensures { result.0 ≡ pos (two b.now (at + 4)) }
 {
-    Cycles::of_bytes(b[at + 4], b[at + 5])
+    Cycles::from(two_at(b, at + 4))
 }
 
 // The idle count of the unit at a place.
@@ -148,14 +148,14 @@ pub fn start_at(b: &[u8], at: usize) -> Iterations
     requires { at + 9 ≤ length b.now }
     ensures { result.0 ≡ pos (two b.now (at + 7)) }
 {
-    Iterations::of_bytes(b[at + 7], b[at + 8])
+    Iterations::from(two_at(b, at + 7))
 }
 
 pub fn tap_at(b: &[u8], at: usize) -> Cycles
     requires { at + 8 ≤ length b.now }
     ensures { result.0 ≡ pos (two b.now (at + 6)) }
 {
-    Cycles::of_bytes(b[at + 6], b[at + 7])
+    Cycles::from(two_at(b, at + 6))
 }
 
 // The tap of switch e.

@@ -1,23 +1,17 @@
--- Laws of answers: an answer's number is its first fault, and a run's first fault is that of the record it stops at. Assumes nothing.
-use mathlib.Core.Path.{◌≡◌, refl, sym, ap, ◌∙◌}
-use mathlib.Core.List.{List}
+-- Laws of answers: an answer's number is its first fault, and a run's first refusal that of its first fault. Assumes nothing.
+use mathlib.Core.Path.{◌≡◌, refl, sym, ap}
 use Prim.Native.Nat.{ℕ, zero, suc, ◌+◌, ◌*◌, ◌<◌, ◌≤◌}
 use native.Mathlib.Nat.{mul-le-mul_left}
 use native.Mathlib.Omega.{arith}
+use Rattle.std.specs.Prelude.{Result, Ok, Err, ⊤}
 use Rattle.words.specs.Loops.{first, ◌then◌}
-use Rattle.words.proofs.FaultLaws.{first_hit}
+use Rattle.words.proofs.FaultLaws.{first_hit, first_none}
 use Rattle.records.specs.declared.reading.Reason.{Reason}
 use Rattle.records.specs.declared.reading.Reason.TheVariants.{Length, Mark, Range, Clash, Unfed, Figures}
-use Rattle.records.specs.declared.reading.Judged.TheVariants as J
-use Rattle.records.specs.declared.reading.UnitRead.{UnitRead}
-use Rattle.records.specs.declared.reading.UnitRead.TheVariants as U
-use Rattle.records.specs.declared.reading.NodeRead.{NodeRead}
-use Rattle.records.specs.declared.reading.NodeRead.TheVariants as N
 use Rattle.records.specs.declared.reading.Run.{Run}
-use Rattle.records.specs.Units.{unit_fits}
-use Rattle.records.specs.Records.{Format, node_fits}
-use Rattle.records.specs.Answers.{reason_number, reason_of, answer, judged, place, mark_of, unit_run, node_run, wire_run, Inside, units_in_run, nodes_in_run, unit_fault, unit_number, unit_answer, node_fault, node_number, node_answer}
-use Rattle.records.proofs.ReadingLaws.{record_le}
+use Rattle.records.specs.Records.{Format}
+use Rattle.records.specs.Answers.{reason_of, answered, judged, answer_number, FirstRefused, place, unit_run, node_run, wire_run, Inside}
+use Rattle.records.specs.Numbers.{reason_number}
 
 -- ---- reasons and their numbers
 
@@ -39,61 +33,48 @@ reason_positive Clash = omega arith
 reason_positive Unfed = omega arith
 reason_positive Figures = omega arith
 
--- a reason is answered at its own number
-pub answer_reason : {A : Type 0} (got : A) (refused : Reason → A) (why : Reason) → answer got refused (reason_number why) ≡ refused why
-unfolding reason_of
-answer_reason got refused Length = refl
-answer_reason got refused Mark = refl
-answer_reason got refused Range = refl
-answer_reason got refused Clash = refl
-answer_reason got refused Unfed = refl
-answer_reason got refused Figures = refl
-
 -- the number of an answer is the fault at which it is given
-pub number_answer : {A : Type 0} (number : A → ℕ) (got : A) (refused : Reason → A) →
-    number got ≡ 0 → ((why : Reason) → number (refused why) ≡ reason_number why) → (f : ℕ) → f ≤ 5 → number (answer got refused f) ≡ f
-number_answer number got refused g r zero k = g
-number_answer number got refused g r (suc n) k = r (reason_of (suc n)) ∙ reason_back (suc n) (omega arith) k
-
--- an answer taken over into another
-pub answer_map : {A B : Type 0} (h : A → B) (got : A) (refused : Reason → A) (f : ℕ) → h (answer got refused f) ≡ answer (h got) (λ why. h (refused why)) f
-answer_map h got refused zero = refl
-answer_map h got refused (suc n) = refl
+pub number_answered : {A : Type 0} (got : A) (f : ℕ) → f ≤ 5 → answer_number (answered got f) ≡ f
+number_answered got zero k = refl
+number_answered got (suc n) k = reason_back (suc n) (omega arith) k
 
 -- ---- judging part by part
 
-pub passed_none : (f : ℕ) → judged f ≡ J.Passed → f ≡ 0
-passed_none zero e = refl
-passed_none (suc n) e = let z : ◌≡◌ {A = ℕ} 0 1 = cc in absurd (omega arith)
+-- what is got has no fault
+pub got_none : {A : Type 0} (got got' : A) (f : ℕ) → answered got f ≡ Ok got' → (f ≡ 0) × (got' ≡ got)
+got_none got got' zero e = (refl, cc)
+got_none got got' (suc n) e = let z : ◌≡◌ {A = ℕ} 0 1 = cc in absurd (omega arith)
 
--- what is refused in part is refused for that reason
-pub refused_last : {A : Type 0} (got : A) (refused : Reason → A) (a : ℕ) (why : Reason) → judged a ≡ J.Refused why → answer got refused a ≡ refused why
-refused_last got refused zero why e = let z : ◌≡◌ {A = ℕ} 0 1 = cc in absurd (omega arith)
-refused_last got refused (suc n) why e = let r : reason_of (suc n) ≡ why = cc in ap refused r
+-- what is refused has one
+pub refused_some : {A : Type 0} (got : A) (f : ℕ) (why : Reason) → answered got f ≡ Err why → 0 < f
+refused_some got zero why e = let z : ◌≡◌ {A = ℕ} 0 1 = cc in absurd (omega arith)
+refused_some got (suc n) why e = omega arith
+
+-- what is refused for one answer is refused for any, for that reason
+pub refused_last : {A B : Type 0} (got : A) (got' : B) (a : ℕ) (why : Reason) → answered got a ≡ Err why → answered got' a ≡ Err why
+refused_last got got' zero why e = let z : ◌≡◌ {A = ℕ} 0 1 = cc in absurd (omega arith)
+refused_last got got' (suc n) why e = let r : reason_of (suc n) ≡ why = cc in ap Err r
 
 -- and a part that is refused decides
-pub refused_first : {A : Type 0} (got : A) (refused : Reason → A) (a b : ℕ) (why : Reason) → judged a ≡ J.Refused why → answer got refused (a then b) ≡ refused why
-refused_first got refused zero b why e = let z : ◌≡◌ {A = ℕ} 0 1 = cc in absurd (omega arith)
-refused_first got refused (suc n) b why e = refused_last got refused (suc n) why e
+pub refused_first : {A B : Type 0} (got : A) (got' : B) (a b : ℕ) (why : Reason) → answered got a ≡ Err why → answered got' (a then b) ≡ Err why
+refused_first got got' zero b why e = let z : ◌≡◌ {A = ℕ} 0 1 = cc in absurd (omega arith)
+refused_first got got' (suc n) b why e = refused_last got got' (suc n) why e
 
--- the number of a reader's answer is its record's fault
-pub unit_told : (b : List ℕ) (r : Run) (i : ℕ) (a : UnitRead) → a ≡ unit_answer b r i → unit_number a ≡ unit_fault b r i
-unfolding unit_fault
-unit_told b r i a e =
-    let l = record_le b (place r i) (mark_of r) (unit_fits (units_in_run b r i)) in
-    ap unit_number e ∙ number_answer unit_number _ U.Refused refl (λ _. refl) (unit_fault b r i) (omega arith)
-
-pub node_told : (b : List ℕ) (fold : ℕ) (us r : Run) (i : ℕ) (a : NodeRead) → a ≡ node_answer b fold us r i → node_number a ≡ node_fault b fold us r i
-unfolding node_fault
-node_told b fold us r i a e =
-    let l = record_le b (place r i) (mark_of r) (node_fits fold us.count (units_in_run b us) (nodes_in_run b r i)) in
-    ap node_number e ∙ number_answer node_number _ N.Refused refl (λ _. refl) (node_fault b fold us r i) (omega arith)
+-- the first refusal of reads that answer their faults is answered at the first fault
+pub first_refused_is : {A : Type 0} {read : ℕ → Result A Reason → Type 0} (n : ℕ) (r : Result ⊤ Reason) (got : ℕ → A) (f : ℕ → ℕ) →
+    FirstRefused read n r → ((i : ℕ) (a : Result A Reason) → i < n → read i a → a ≡ answered (got i) (f i)) → r ≡ judged (first n f)
+first_refused_is n (Ok passed) got f h told =
+    let p = h.passed refl in
+    let none = first_none n f (λ i l. (got_none (got i) (p i l).0 (f i) (sym (told i (Ok (p i l).0) l (p i l).1))).0) in
+    rw none refl
+first_refused_is n (Err why) got f h told =
+    let p = h.refused why refl in
+    let i = p.0 in
+    let none = first_none i f (λ j k. (got_none (got j) (p.2 j k).0 (f j) (sym (told j (Ok (p.2 j k).0) (omega (arith, p.1)) (p.2 j k).1))).0) in
+    let here = sym (told i (Err why) p.1 p.3) in
+    rw (first_hit n i f p.1 none (refused_some (got i) (f i) why here)) (sym (refused_last (got i) tt (f i) why here))
 
 -- ---- runs
-
--- a run is refused as the record at which it stops
-pub run_refused : (n i : ℕ) (f : ℕ → ℕ) (why : Reason) → i < n → first i f ≡ 0 → f i ≡ reason_number why → judged (f i) ≡ judged (first n f)
-run_refused n i f why l h e = ap judged (sym (first_hit n i f l h (let p = reason_positive why in omega arith)))
 
 -- a record of a run lies in the bytes
 pub in_run : (n : ℕ) (r : Run) (whole i : ℕ) → Inside n r whole → i < r.count → place r i + n ≤ whole
@@ -108,6 +89,3 @@ module _ (f : Format) (u n w k : ℕ) where
 
   pub nodes_inside : k ≤ f.node_length → Inside k (node_run f u n) (place (wire_run f u n w) w)
   nodes_inside h = record { wide = h; ends = omega arith }
-
-  pub wires_inside : k ≤ f.wire_length → Inside k (wire_run f u n w) (place (wire_run f u n w) w)
-  wires_inside h = record { wide = h; ends = omega arith }

@@ -3,7 +3,7 @@
 use mathlib.Core.Path.{◌≡◌, refl, ap, ◌∙◌}
 use mathlib.Core.Bool.{Bool, true}
 use mathlib.Core.List.{List}
-use Prim.Native.Nat.{ℕ, zero, suc, ◌<◌, ◌≤◌}
+use Prim.Native.Nat.{ℕ, zero, suc, ◌<◌}
 use lib.Dec.{leb, eqb}
 use lib.ListN.{length}
 use borrow.Author.Tests.{eqb-true}
@@ -14,10 +14,9 @@ use Rattle.records.specs.declared.Node.{Node}
 use Rattle.records.specs.declared.reading.Run.{Run}
 use Rattle.records.specs.Units.{unit_fits}
 use Rattle.records.specs.Records.{Format, fold_in, units_in, nodes_in, wires_in, unit_place, node_place, wire_place, whole_length, unit_at, node_at, record_fault, reading_fault, node_fits}
-use Rattle.records.specs.Answers.{unit_part, node_part, place, mark_of, unit_run, node_run, wire_run, Inside, units_in_run, nodes_in_run, unit_fault, units_fault, node_fault, nodes_fault, parts_fault, front_fault}
+use Rattle.records.specs.Answers.{place, mark_of, unit_run, node_run, wire_run, units_in_run, nodes_in_run, unit_fault, units_fault, node_fault, nodes_fault, parts_fault, front_fault}
 use Rattle.records.proofs.NodeLaws.{node_fits_same}
 use Rattle.records.proofs.ReadingLaws.{record_split}
-use Rattle.records.proofs.AnswerLaws.{units_inside, nodes_inside}
 
 module _ (f : Format) (b : List ℕ) where
   -- ---- the runs that the header's numbers give
@@ -26,9 +25,6 @@ module _ (f : Format) (b : List ℕ) where
       (fold u n w whole : ℕ) (us ns ws : Run) (ef : fold ≡ fold_in b) (eu : u ≡ units_in b) (en : n ≡ nodes_in b) (ew : w ≡ wires_in b)
       (ws_is : ws ≡ wire_run f u n w) (whole_is : whole ≡ place ws ws.count) (us_is : us ≡ unit_run f u) (ns_is : ns ≡ node_run f u n)
     where
-      pub runs_inside : unit_part ≤ f.unit_length → node_part ≤ f.node_length → Inside unit_part us whole × Inside node_part ns whole
-      runs_inside h k = rw (whole_is, ws_is, us_is, ns_is) (units_inside f u n w unit_part h, nodes_inside f u n w node_part k)
-
       pub front_said : parts_fault b whole fold us ns ≡ front_fault f b
       unfolding front_fault
       front_said = rw (whole_is, ws_is, us_is, ns_is, ef, eu, en, ew) refl

@@ -4,3 +4,4 @@ pub mod NodeLaws
 pub mod ByteLaws
 pub mod AnswerLaws
 pub mod FrontLaws
+pub mod NumberLaws

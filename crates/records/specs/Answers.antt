@@ -1,45 +1,40 @@
 -- Only passes between functions: what the readers of records answer, the first fault as its reason. Assumes nothing.
-use Rattle.std.specs.Prelude.{Bool, cond, ◌&&◌, List, [], ◌∷◌, ℕ, zero, suc, ◌+◌, ◌*◌, ◌≤◌, leb, eqb, length, nat_abs}
+use Rattle.std.specs.Prelude.{◌≡◌, Bool, cond, ◌&&◌, List, [], ◌∷◌, ℕ, zero, suc, ◌+◌, ◌*◌, ◌<◌, ◌≤◌, leb, eqb, length, nat_abs, Result, Ok, Err, ⊤}
 use Rattle.words.specs.Loops.{first, unless, ◌then◌}
 use Rattle.records.specs.declared.Unit.{Unit}
 use Rattle.records.specs.declared.Node.{Node}
 use Rattle.records.specs.declared.reading.Reason.{Reason}
 use Rattle.records.specs.declared.reading.Reason.TheVariants.{Length, Mark, Range, Clash, Unfed, Figures}
-use Rattle.records.specs.declared.reading.Judged.{Judged}
-use Rattle.records.specs.declared.reading.Judged.TheVariants as J
 use Rattle.records.specs.declared.reading.Header.{Header}
-use Rattle.records.specs.declared.reading.HeaderRead.{HeaderRead}
-use Rattle.records.specs.declared.reading.HeaderRead.TheVariants as H
-use Rattle.records.specs.declared.reading.UnitRead.{UnitRead}
-use Rattle.records.specs.declared.reading.UnitRead.TheVariants as U
-use Rattle.records.specs.declared.reading.NodeRead.{NodeRead}
-use Rattle.records.specs.declared.reading.NodeRead.TheVariants as N
 use Rattle.records.specs.declared.reading.Run.{Run}
+use Rattle.records.specs.Numbers.{number_of, reason_number}
 use Rattle.records.specs.Units.{op_port, unit_fits}
 use Rattle.records.specs.Records.{at, Format, fold_in, units_in, nodes_in, wires_in, most_fold, most_units, most_nodes, most_wires, between, counts_fit, whole_length, unit_at, node_at, record_fault, node_fits}
 
 -- ---- "Each call ends in its result or one numbered refusal": reasons and 01's numbers
-
-abbrev pub reason_number : Reason → ℕ
-reason_number Length = 1
-reason_number Mark = 2
-reason_number Range = 3
-reason_number Clash = 4
-reason_number Unfed = 5
-reason_number Figures = 9
 
 -- the reason with that number
 unfoldable pub reason_of : ℕ → Reason
 reason_of n =
     cond (eqb n 1) Length (cond (eqb n 2) Mark (cond (eqb n 3) Range (cond (eqb n 4) Clash (cond (eqb n 5) Unfed Figures))))
 
--- what is answered at a first fault, of which 0 is none
-abbrev pub answer : {A : Type 0} → A → (Reason → A) → ℕ → A
-answer got refused zero = got
-answer got refused (suc n) = refused (reason_of (suc n))
+-- what is answered at a first fault, of which 0 is none: what was got, or the fault's reason
+abbrev pub answered : {A : Type 0} → A → ℕ → Result A Reason
+answered got zero = Ok got
+answered got (suc n) = Err (reason_of (suc n))
 
-abbrev pub judged : ℕ → Judged
-judged = answer J.Passed J.Refused
+-- a part of the bytes is judged: there is nothing to get
+abbrev pub judged : ℕ → Result ⊤ Reason
+judged = answered tt
+
+-- 01's number for an answer, 0 for what was got
+abbrev pub answer_number : {A : Type 0} → Result A Reason → ℕ
+answer_number = number_of reason_number
+
+-- the first refusal of n reads, or none; `read i r` says that read i may answer r
+pub record FirstRefused {A : Type 0} (read : ℕ → Result A Reason → Type 0) (n : ℕ) (r : Result ⊤ Reason) : Type 0 where
+  pub passed : r ≡ Ok tt → (i : ℕ) → i < n → (got : A) × read i (Ok got)
+  pub refused : (why : Reason) → r ≡ Err why → (i : ℕ) × (i < n) × ((j : ℕ) → j < i → (got : A) × read j (Ok got)) × read i (Err why)
 
 -- ---- the bytes of a mark, a header, a unit and a node that sheets and plans share
 
@@ -67,8 +62,8 @@ header_fits h =
 abbrev pub header_fault : List ℕ → ℕ → List ℕ → ℕ
 header_fault b n m = unless (leb n (length b)) 1 then record_fault b 0 m (counts_fit b)
 
-unfoldable pub header_answer : List ℕ → ℕ → List ℕ → HeaderRead
-header_answer b n m = answer (H.Got (header_in b)) H.Refused (header_fault b n m)
+unfoldable pub header_answer : List ℕ → ℕ → List ℕ → Result Header Reason
+header_answer b n m = answered (header_in b) (header_fault b n m)
 
 -- ---- a run of records of one sort
 
@@ -108,12 +103,8 @@ nodes_in_run b r x = node_at b (place r x)
 unfoldable pub unit_fault : List ℕ → Run → ℕ → ℕ
 unit_fault b r i = record_fault b (place r i) (mark_of r) (unit_fits (units_in_run b r i))
 
-abbrev pub unit_number : UnitRead → ℕ
-unit_number (U.Got u) = 0
-unit_number (U.Refused why) = reason_number why
-
-abbrev pub unit_answer : List ℕ → Run → ℕ → UnitRead
-unit_answer b r i = answer (U.Got (units_in_run b r i)) U.Refused (unit_fault b r i)
+abbrev pub unit_answer : List ℕ → Run → ℕ → Result Unit Reason
+unit_answer b r i = answered (units_in_run b r i) (unit_fault b r i)
 
 abbrev pub units_fault : List ℕ → Run → ℕ
 units_fault b r = first r.count (unit_fault b r)
@@ -122,12 +113,8 @@ units_fault b r = first r.count (unit_fault b r)
 unfoldable pub node_fault : List ℕ → ℕ → Run → Run → ℕ → ℕ
 node_fault b fold us r i = record_fault b (place r i) (mark_of r) (node_fits fold us.count (units_in_run b us) (nodes_in_run b r i))
 
-abbrev pub node_number : NodeRead → ℕ
-node_number (N.Got n) = 0
-node_number (N.Refused why) = reason_number why
-
-abbrev pub node_answer : List ℕ → ℕ → Run → Run → ℕ → NodeRead
-node_answer b fold us r i = answer (N.Got (nodes_in_run b r i)) N.Refused (node_fault b fold us r i)
+abbrev pub node_answer : List ℕ → ℕ → Run → Run → ℕ → Result Node Reason
+node_answer b fold us r i = answered (nodes_in_run b r i) (node_fault b fold us r i)
 
 abbrev pub nodes_fault : List ℕ → ℕ → Run → Run → ℕ
 nodes_fault b fold us r = first r.count (node_fault b fold us r)

@@ -5,6 +5,7 @@ ghost use Rattle.std.specs.Prelude.{◌≡◌, true};
 ghost use Rattle.records.specs.Units.{kind_of, inputs, k_least, k_most, k_fits, unit_fits, value};
 ghost use Rattle.records.specs.Answers.{channel_of};
 
+pub mod answers;
 pub mod reading;
 
 // A unit: its kind and its pipeline depth.
@@ -15,7 +16,7 @@ pub struct Unit {
 }
 
 impl Unit {
-    // Unit kinds.
+    // Unit kinds. Kinds and ops stay numbers with constants of this type: a record's byte may be any number until it is judged.
     pub const PORT: u8 = 0;
 
     pub const ADDER: u8 = 1;
@@ -148,6 +149,7 @@ impl Node {
 }
 
 // What an op gives, of its K, its channel's sample and the words at its inputs 0 and 1.
+#[tactic(auto, unfolding(crate::specs::Units::value))]
 pub fn value(op: u8, k: i16, sample: u32, a: u32, b: u32) -> u32
     ensures { result ≡ value op k sample a b }
 {

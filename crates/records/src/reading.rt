@@ -1,27 +1,52 @@
-// Records read where they stand, each reader's answer an enum, and the first fault of a run of records handed up. Sheets and
-// plans are read by the same functions: marks, lengths and places are parameters.
-ghost use Rattle.std.specs.Prelude.{◌≡◌, [], ◌∷◌, ◌+◌, ◌^◌, ◌<◌, ◌≤◌, length};
+// Records read where they stand, each reader's answer a record or a reason, and the first fault of a run of records handed up.
+// Sheets and plans are read by the same functions: marks, lengths and places are parameters.
+ghost use Rattle.std.specs.Prelude.{◌≡◌, ℕ, [], ◌∷◌, ◌+◌, ◌^◌, ◌<◌, ◌≤◌, length};
+ghost use Rattle.words.specs.Loops.{unless, ◌then◌};
 ghost use Rattle.records.specs.Records.{two, marked, node_fits};
-ghost use Rattle.records.specs.Answers.{judged, header_part, mark_part, unit_part, node_part, header_in, header_fits, header_answer, place, mark_of, units_in_run, nodes_in_run, Inside, unit_number, unit_answer, units_fault, node_number, node_answer, nodes_fault, parts_fault};
+ghost use Rattle.records.specs.Answers.{answered, judged, FirstRefused, header_part, mark_part, unit_part, node_part, header_in, header_fits, header_answer, place, mark_of, units_in_run, nodes_in_run, Inside, unit_answer, units_fault, node_answer, nodes_fault, parts_fault};
 
 use crate::{Node, Unit};
 
 // Why bytes are refused: a case for each of the numbers 1 to 5 and 9.
-#[derive(Clone, Copy)]
+#[derive(Clone, Copy, Debug, PartialEq, Eq)]
 pub enum Reason {
-    Length,
-    Mark,
-    Range,
-    Clash,
-    Unfed,
-    Figures,
+    Length = 1,
+    Mark = 2,
+    Range = 3,
+    Clash = 4,
+    Unfed = 5,
+    Figures = 9,
 }
 
-// What judging a part of the bytes answers.
-#[derive(Clone, Copy)]
-pub enum Judged {
-    Passed,
-    Refused(Reason),
+// A record that is read: its mark is asked before its ranges.
+#[tactic(auto, unfolding(crate::specs::Answers::reason_of))]
+pub fn mark_before_range<T: Copy>(right: bool, fits: bool, got: T) -> Result<T, Reason>
+    ensures { result ≡ answered got (unless right 2 then unless fits 3) }
+{
+    if !right {
+        return Err(Reason::Mark);
+    }
+    if !fits {
+        return Err(Reason::Range);
+    }
+    Ok(got)
+}
+
+// The first refusal of a run of so many records.
+pub fn first_refused<T: Copy, F: Fn(usize) -> Result<T, Reason>>(
+    count: usize,
+    read: F,
+) -> Result<(), Reason>
+    requires { (i : ℕ) → i < count → F.pre read i }
+    ensures { FirstRefused (F.post read) count result }
+{
+    for i in 0..count {
+        let got = read(i);
+        let Ok(_) = got else {
+            return Err(got.unwrap_err());
+        };
+    }
+    Ok(())
 }
 
 // What a header says: N and the numbers of units, nodes and wires.
@@ -64,29 +89,18 @@ impl Header {
     }
 }
 
-#[derive(Clone, Copy)]
-pub enum HeaderRead {
-    Got(Header),
-    Refused(Reason),
-}
-
 // The header at the front of b: length, then mark, then ranges.
-pub fn read_header(b: &[u8], size: usize, first: u8, second: u8) -> HeaderRead
+#[tactic(auto, unfolding(crate::specs::Answers::reason_of, crate::specs::Answers::header_answer))]
+pub fn read_header(b: &[u8], size: usize, first: u8, second: u8) -> Result<Header, Reason>
     requires { header_part ≤ size }
     ensures { result ≡ header_answer b.now size (first ∷ second ∷ []) }
 {
     if b.len() < size {
-        return HeaderRead::Refused(Reason::Length);
-    }
-    if !((b[0] == first) & (b[1] == second)) {
-        return HeaderRead::Refused(Reason::Mark);
+        return Err(Reason::Length);
     }
     let header = header_in(b);
-    if header.fits() {
-        HeaderRead::Got(header)
-    } else {
-        HeaderRead::Refused(Reason::Range)
-    }
+    let right = (b[0] == first) & (b[1] == second);
+    mark_before_range(right, header.fits(), header)
 }
 
 fn header_in(b: &[u8]) -> Header
@@ -114,6 +128,28 @@ impl Run {
     {
         self.at + self.size * i
     }
+
+    // Where it ends.
+    pub fn end(self) -> usize
+        requires { place self self.count < 2 ^ 64 }
+        ensures { result ≡ place self self.count }
+    {
+        self.place(self.count)
+    }
+
+    // The run of records of the next sort, behind this one.
+    pub fn behind(self, size: usize, count: u8, second: u8) -> Self
+        requires { place self self.count < 2 ^ 64 }
+        ensures { result ≡ record { at = place self self.count; size = size; count = count; first = self.first; second = second } }
+    {
+        Self {
+            at: self.end(),
+            size,
+            count: count as usize,
+            first: self.first,
+            second,
+        }
+    }
 }
 
 // Whether record i bears its mark.
@@ -130,13 +166,7 @@ pub fn two_at(b: &[u8], at: usize) -> u16
     requires { at + 2 ≤ length b.now }
     ensures { result ≡ two b.now at }
 {
-    b[at] as u16 + 256 * (b[at + 1] as u16)
-}
-
-#[derive(Clone, Copy)]
-pub enum UnitRead {
-    Got(Unit),
-    Refused(Reason),
+    u16::from_le_bytes([b[at], b[at + 1]])
 }
 
 // Unit q of a run.
@@ -148,60 +178,31 @@ pub fn unit_in(b: &[u8], units: Run, q: usize) -> Unit
     Unit::new(b[at + 2], b[at + 3])
 }
 
-pub fn read_unit(b: &[u8], units: Run, i: usize) -> UnitRead
+#[tactic(auto, unfolding(crate::specs::Answers::unit_fault))]
+pub fn read_unit(b: &[u8], units: Run, i: usize) -> Result<Unit, Reason>
     requires { place units i + unit_part ≤ length b.now }
     ensures { result ≡ unit_answer b.now units i }
 {
-    let right = marked(b, units, i);
     let unit = unit_in(b, units, i);
-    let fits = unit.fits();
-    if !right {
-        return UnitRead::Refused(Reason::Mark);
-    }
-    if !fits {
-        return UnitRead::Refused(Reason::Range);
-    }
-    UnitRead::Got(unit)
-}
-
-fn unit_judged(got: UnitRead) -> Judged
-    ensures { result ≡ judged (unit_number got) }
-{
-    match got {
-        UnitRead::Got(_) => Judged::Passed,
-        UnitRead::Refused(why) => Judged::Refused(why),
-    }
+    mark_before_range(marked(b, units, i), unit.fits(), unit)
 }
 
 // The first fault of the units.
-pub fn judge_units(b: &[u8], units: Run) -> Judged
+pub fn judge_units(b: &[u8], units: Run) -> Result<(), Reason>
     requires { Inside unit_part units (length b.now) }
     ensures { result ≡ judged (units_fault b.now units) }
 {
-    let mut i = 0;
-    while i < units.count {
-        let got = read_unit(b, units, i);
-        let UnitRead::Got(_) = got else {
-            return unit_judged(got);
-        };
-        i += 1;
-    }
-    Judged::Passed
-}
-
-#[derive(Clone, Copy)]
-pub enum NodeRead {
-    Got(Node),
-    Refused(Reason),
+    first_refused(units.count, |i| read_unit(b, units, i))
 }
 
 // Node x of a run.
+#[tactic(auto, unfolding(words::specs::Words::signed))]
 pub fn node_in(b: &[u8], nodes: Run, x: usize) -> Node
     requires { place nodes x + node_part ≤ length b.now }
     ensures { result ≡ nodes_in_run b.now nodes x }
 {
     let at = nodes.place(x);
-    let k = words::two_complement(two_at(b, at + 5));
+    let k = two_at(b, at + 5).cast_signed();
     Node::new(b[at + 2], b[at + 3], b[at + 4], k)
 }
 
@@ -221,61 +222,37 @@ fn node_fits(b: &[u8], fold: u8, units: Run, n: Node) -> bool
         & Unit::k_fits(n.op, n.k)
 }
 
-pub fn read_node(b: &[u8], fold: u8, units: Run, nodes: Run, i: usize) -> NodeRead
+#[tactic(auto, unfolding(crate::specs::Answers::node_fault))]
+pub fn read_node(b: &[u8], fold: u8, units: Run, nodes: Run, i: usize) -> Result<Node, Reason>
     requires inside { Inside unit_part units (length b.now) }
     requires node_part_in_bounds { place nodes i + node_part ≤ length b.now }
     ensures { result ≡ node_answer b.now fold units nodes i }
 {
-    let right = marked(b, nodes, i);
     let node = node_in(b, nodes, i);
     let fits = node_fits(b, fold, units, node);
-    if !right {
-        return NodeRead::Refused(Reason::Mark);
-    }
-    if !fits {
-        return NodeRead::Refused(Reason::Range);
-    }
-    NodeRead::Got(node)
-}
-
-fn node_judged(got: NodeRead) -> Judged
-    ensures { result ≡ judged (node_number got) }
-{
-    match got {
-        NodeRead::Got(_) => Judged::Passed,
-        NodeRead::Refused(why) => Judged::Refused(why),
-    }
+    mark_before_range(marked(b, nodes, i), fits, node)
 }
 
 // The first fault of the nodes.
-pub fn judge_nodes(b: &[u8], fold: u8, units: Run, nodes: Run) -> Judged
+pub fn judge_nodes(b: &[u8], fold: u8, units: Run, nodes: Run) -> Result<(), Reason>
     requires inside { Inside unit_part units (length b.now) }
     requires inside_2 { Inside node_part nodes (length b.now) }
     ensures { result ≡ judged (nodes_fault b.now fold units nodes) }
 {
-    let mut i = 0;
-    while i < nodes.count {
-        let got = read_node(b, fold, units, nodes, i);
-        let NodeRead::Got(_) = got else {
-            return node_judged(got);
-        };
-        i += 1;
-    }
-    Judged::Passed
+    first_refused(nodes.count, |i| read_node(b, fold, units, nodes, i))
 }
 
-// The first fault of the total length, the units and the nodes.
-pub fn judge_parts(b: &[u8], whole: usize, fold: u8, units: Run, nodes: Run) -> Judged
+// The first fault of the total length, the units and the nodes. Inlined, so that a format's marks and lengths are constants there.
+#[inline(always)]
+#[tactic(auto, unfolding(crate::specs::Answers::reason_of))]
+pub fn judge_parts(b: &[u8], whole: usize, fold: u8, units: Run, nodes: Run) -> Result<(), Reason>
     requires inside { Inside unit_part units whole }
     requires inside_2 { Inside node_part nodes whole }
     ensures { result ≡ judged (parts_fault b.now whole fold units nodes) }
 {
     if b.len() != whole {
-        return Judged::Refused(Reason::Length);
+        return Err(Reason::Length);
     }
-    let judged = judge_units(b, units);
-    let Judged::Passed = judged else {
-        return judged;
-    };
+    judge_units(b, units)?;
     judge_nodes(b, fold, units, nodes)
 }

@@ -13,7 +13,7 @@ use Rattle.sheets.specs.Sheet.{sheet_format, sheet_of}
 use Rattle.sheets.proofs.SheetLaws.{Passed, nodes_is, wires_is, wire_read, wire_parts, counts_of, sound}
 use Rattle.folding.specs.Walks.{Net}
 use Rattle.folding.specs.Folding.{net, bound}
-use Rattle.folding.proofs.AlikeLaws.{Alike}
+use Rattle.folding.specs.Alike.{Alike}
 use Rattle.folding.proofs.SizeLaws.{small_of, bound_low, bound_high}
 use Rattle.rounds.specs.Rounds.{bytes_net, Wired, Moderate}
 

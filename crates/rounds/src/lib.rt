@@ -3,108 +3,57 @@
 // chain. Assumes nothing.
 #![tactic(auto)]
 
-ghost use Rattle.std.specs.Prelude.{◌≡◌, ℕ, ◌+◌, ◌*◌, ◌<◌, length, get_or, pos};
+ghost use Rattle.std.specs.Prelude.{◌≡◌};
 ghost use Rattle.times.specs.Times.{iterations_at};
-ghost use Rattle.sheets.specs.Sheet.{sheet_format};
-ghost use Rattle.rounds.specs.Rounds.{bytes_net, Wired, Moderate, Settling};
+ghost use Rattle.rounds.specs.Rounds.{Fitting, Reached, Fell};
+ghost use Rattle.rounds.specs.NetOf.{net_of};
+ghost use Rattle.rounds.specs.Settling.{Settling};
 
+use net::Net;
 use sheets::Sheet;
 use times::Iterations;
 
-// The limits of a sheet by which arrays are made, and where a wire's record has its two ends.
-#[derive(Clone, Copy)]
-pub struct Layout {}
-
-impl Layout {
-    pub const NODES: usize = Sheet::MOST_NODES;
-
-    pub const WIRES: usize = Sheet::MOST_WIRES;
-
-    pub const RECORD: usize = Sheet::WIRE;
-
-    pub const FROM: usize = 2;
-
-    pub const TO: usize = 3;
-}
+pub mod net;
 
 // What the rounds come to, and how many there were.
 #[derive(Clone, Copy)]
 pub struct Settled {
-    pub totals: [Iterations; Layout::NODES],
+    pub totals: [Iterations; Sheet::MOST_NODES],
     pub rounds: u8,
-    pub settled: bool,
 }
 
-impl Settled {
-    pub fn new(totals: [Iterations; Layout::NODES], rounds: u8, settled: bool) -> Self
-        ensures { result ≡ record { totals = totals; rounds = rounds; settled = settled } }
-    {
-        Self {
-            totals,
-            rounds,
-            settled,
+// One round over all wires, and whether a total fell with it.
+fn round(
+    net: &Net,
+    former: &[Iterations; Sheet::MOST_NODES],
+    totals: &mut [Iterations; Sheet::MOST_NODES],
+) -> bool
+    requires sums { Fitting (net_of net.now) (iterations_at former.now) }
+    requires same { totals.old ≡ former.now }
+    ensures reached { Reached (net_of net.now) (iterations_at former.now) totals.new net.now.wires }
+    ensures fell { Fell net.now.nodes (iterations_at former.now) totals.new result }
+{
+    let mut fell = false;
+    for e in 0..net.wires {
+        if net.relax(e, former, totals).is_some() {
+            fell = true;
         }
     }
+    fell
 }
 
-pub fn wide(x: u8) -> usize
-    ensures { result ≡ x }
+// Rounds until nothing changes, at most as many as there are nodes.
+pub fn settle(net: &Net) -> Option<Settled>
+    ensures { Settling (net_of net.now) result }
 {
-    x as usize
-}
-
-// One end of wire e; the records stand in b from byte `at` on.
-pub fn end_at(b: &[u8], at: usize, e: usize, side: usize) -> usize
-    requires { at + sheet_format.wire_length * e + side < length b.now }
-    ensures { result ≡ get_or b.now (at + sheet_format.wire_length * e + side) 0 }
-{
-    wide(b[at + Layout::RECORD * e + side])
-}
-
-// The empty walk counts 0.
-pub fn no_totals() -> [Iterations; Layout::NODES]
-    ensures { (u : ℕ) → iterations_at result u ≡ pos 0 }
-{
-    [Iterations::zero(); Layout::NODES]
-}
-
-// Rounds until nothing changes, at most as many as there are nodes. A turn takes wire e of round k + 1, which reads the former totals
-// alone, or closes the round.
-pub fn settle(
-    b: &[u8],
-    at: usize,
-    wires: usize,
-    nodes: usize,
-    bounds: [Iterations; Layout::WIRES],
-) -> Settled
-    requires wired { Wired b.now at nodes wires }
-    requires moderate { Moderate (bytes_net b.now at nodes wires bounds) }
-    ensures { Settling (bytes_net b.now at nodes wires bounds) result }
-{
-    let mut former = no_totals();
-    let mut totals = former;
-    let mut changed = false;
-    let mut k = 0;
-    let mut e = 0;
-    while k < nodes {
-        if e < wires {
-            let u = end_at(b, at, e, Layout::FROM);
-            let v = end_at(b, at, e, Layout::TO);
-            let sum = bounds[e].plus(former[v]);
-            e += 1;
-            if sum.below(totals[u]) {
-                totals[u] = sum;
-                changed = true;
-            }
-            continue;
+    // The empty walk counts 0.
+    let mut totals = [Iterations::ZERO; Sheet::MOST_NODES];
+    for k in 0..net.nodes {
+        let former = totals;
+        if !round(net, &former, &mut totals) {
+            let rounds = k as u8;
+            return Some(Settled { totals, rounds });
         }
-        if !changed {
-            break;
-        }
-        former = totals;
-        changed = false;
-        e = 0;
-        k += 1;
     }
-    Settled::new(totals, k as u8, k < nodes)
+    None
 }

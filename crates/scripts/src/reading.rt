@@ -1,4 +1,4 @@
-// Fields of the commands, read where they stand; beyond the end all bytes are 0.
+// The commands of a script, read one field after the other, and the text that they stand in. Beyond the end all bytes are 0.
 ghost use Rattle.std.specs.Prelude.{◌≡◌, ◌≤◌, IfOk, length, take};
 
 use std::io;
@@ -19,84 +19,85 @@ pub fn read_full<R: Read>(input: &mut R, buf: &mut [u8]) -> io::Result<usize>
     Ok(done)
 }
 
-// a hexadecimal digit's number, and 16 for any other character
-fn digit(c: u8) -> u8 {
+// A hexadecimal digit's number. Capitals are none.
+fn digit(c: u8) -> Option<u8> {
     match c {
-        b'0'..=b'9' => c - b'0',
-        b'a'..=b'f' => c - b'a' + 10,
-        _ => 16,
+        b'0'..=b'9' => Some(c - b'0'),
+        b'a'..=b'f' => Some(c - b'a' + 10),
+        _ => None,
     }
 }
 
-// The bytes that a text's hexadecimal digits say go to the lent bytes, which are 0; answers how many digits there are.
+// The bytes that a text's hexadecimal digits say go to the lent bytes, which are 0; answers how many bytes they are.
 pub fn decode(text: &[u8], bytes: &mut [u8]) -> usize {
     let mut digits = 0;
-    let mut i = 0;
-    while i < text.len() {
-        let d = digit(text[i]);
-        if d < 16 {
+    for c in text {
+        if let Some(d) = digit(*c) {
             push(bytes, digits / 2, d);
             digits += 1;
         }
-        i += 1;
     }
-    digits
+    digits / 2
 }
 
 // One more digit of byte i.
 fn push(bytes: &mut [u8], i: usize, d: u8) {
-    if i < bytes.len() {
-        bytes[i] = bytes[i] % 16 * 16 + d % 16;
+    if let Some(byte) = bytes.get_mut(i) {
+        *byte = *byte % 16 * 16 + d % 16;
     }
 }
 
-pub fn byte(job: &[u8], at: usize) -> u8 {
-    if at < job.len() { job[at] } else { 0 }
+pub fn byte(bytes: &[u8], at: usize) -> u8 {
+    bytes.get(at).copied().unwrap_or(0)
 }
 
-// A place n further on; places beyond 100,000 are not told apart.
-pub fn place(at: usize, n: usize) -> usize {
-    at % 100000 + n % 100000
+// What of a script has not been read.
+#[derive(Clone, Copy)]
+pub struct Script<'a> {
+    rest: &'a [u8],
 }
 
-pub fn pair(job: &[u8], at: usize) -> usize {
-    byte(job, at) as usize + 256 * byte(job, place(at, 1)) as usize
+impl<'a> Script<'a> {
+    pub fn new(bytes: &'a [u8]) -> Self {
+        Script { rest: bytes }
+    }
+
+    pub fn is_read(&self) -> bool {
+        self.rest.is_empty()
+    }
+
+    // The next n bytes, or what there is of them.
+    pub fn part(&mut self, n: usize) -> &'a [u8] {
+        let (part, rest) = self.rest.split_at(n.min(self.rest.len()));
+        self.rest = rest;
+        part
+    }
+
+    pub fn byte(&mut self) -> u8 {
+        byte(self.part(1), 0)
+    }
+
+    // Two and four bytes, the low one first.
+    pub fn pair(&mut self) -> u16 {
+        u16::from_le_bytes([self.byte(), self.byte()])
+    }
+
+    pub fn word(&mut self) -> u32 {
+        u32::from_le_bytes([self.byte(), self.byte(), self.byte(), self.byte()])
+    }
 }
 
-pub fn word(job: &[u8], at: usize) -> u32 {
-    let low = pair(job, at) % 65536;
-    let high = pair(job, place(at, 2)) % 65536;
-    (low + 65536 * high) as u32
+// The first n bytes or words of a slice, or all.
+pub fn front<T>(items: &[T], n: usize) -> &[T] {
+    &items[..n.min(items.len())]
 }
 
-fn lesser(a: usize, b: usize) -> usize
-    ensures { result ≤ b }
-{
-    if a <= b { a } else { b }
+pub fn front_mut<T>(items: &mut [T], n: usize) -> &mut [T] {
+    let end = n.min(items.len());
+    &mut items[..end]
 }
 
-// n, or as many words as there are.
-pub fn within(n: usize, words: &[u32]) -> usize
-    ensures within { result ≤ length words.now }
-    ensures front { result ≡ length (take result words.now) }
-{
-    lesser(n, words.len())
-}
-
-// The n bytes from a place on, or what there is of them.
-pub fn part(job: &[u8], at: usize, n: usize) -> &[u8] {
-    let a = lesser(at, job.len());
-    let e = a + lesser(n, job.len() - a);
-    &job[a..e]
-}
-
-// The first n bytes or words of a lent slice, or all.
-pub fn front(bytes: &mut [u8], n: usize) -> &mut [u8] {
-    let e = lesser(n, bytes.len());
-    &mut bytes[..e]
-}
-
-pub fn front_words(words: &mut [u32], n: usize) -> &mut [u32] {
-    let e = lesser(n, words.len());
-    &mut words[..e]
+// What stands behind the first n bytes.
+pub fn behind(bytes: &[u8], n: usize) -> &[u8] {
+    &bytes[n.min(bytes.len())..]
 }

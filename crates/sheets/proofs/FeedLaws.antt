@@ -1,6 +1,6 @@
 -- A sheet's inputs are fed once exactly where the masks say so: each wire feeds the node that it meets. Assumes nothing.
 use mathlib.Core.Path.{◌≡◌, refl, sym, ap, subst, ◌∙◌}
-use mathlib.Core.Bool.{Bool, true, false, not, ◌&&◌, ◌||◌, true≢false}
+use mathlib.Core.Bool.{Bool, false, not, ◌&&◌}
 use mathlib.Core.List.{List}
 use Prim.Native.Nat.{ℕ, ◌<◌}
 use native.Mathlib.Omega.{arith}
@@ -31,6 +31,9 @@ module _ (b : List ℕ) (s : Header) (h : Held b s) where
   pub wires_counted : s.wires ≡ length (sheet_of b).wires
   wires_counted = wires_said b s h.whole ∙ sym (wires_is b)
 
+  pub clash_counted : (sl : Slots) → SlotsOf s.nodes (node_of (sheet_of b)) sl → clashes (length (sheet_of b).nodes) (node_of (sheet_of b)) ≡ sl.clash
+  clash_counted sl t = sym (t.clash_is ∙ ap (λ (n : ℕ). clashes n (node_of (sheet_of b))) nodes_counted)
+
   module _ (free : clashes (length (sheet_of b).nodes) (node_of (sheet_of b)) ≡ false) where
     -- a wire feeds node x where it feeds the unit and slot of x
     feeds_is : (x i e : ℕ) → x < length (sheet_of b).nodes → e < length (sheet_of b).wires →
@@ -59,16 +62,3 @@ module _ (b : List ℕ) (s : Header) (h : Held b s) where
         (λ x l. ap (λ (u : Unit). u.kind) (unit_got b s h.whole r e (node x).unit (below x l)) ∙ (node_fit b s h x l).of_kind)
         (λ e l. ((wire_of (sheet_of b) e).to, (wire_fit b s h e l).meets, refl, refl, (wire_fit b s h e l).input_fits))
         feeds_is
-
--- ---- the test as the code makes it
-
-pub masks_refuse : (twice fed : Bool) → (twice || not fed) ≡ true → (fed && not twice) ≡ false
-masks_refuse true true h = refl
-masks_refuse true false h = refl
-masks_refuse false true h = sym h
-masks_refuse false false h = refl
-
-pub masks_pass : (twice fed : Bool) → (twice || not fed) ≡ false → (fed && not twice) ≡ true
-masks_pass true fed h = absurd (true≢false h)
-masks_pass false true h = refl
-masks_pass false false h = absurd (true≢false h)

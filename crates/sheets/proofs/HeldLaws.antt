@@ -1,13 +1,13 @@
 -- A sheet's records stand in the bytes where its header says, and what is read there is the sheet's. Assumes nothing.
 use mathlib.Core.Path.{◌≡◌, refl, sym, ap, ◌∙◌}
 use mathlib.Core.List.{List}
-use Prim.Native.Nat.{ℕ, ◌+◌, ◌<◌, ◌≤◌}
+use Prim.Native.Nat.{ℕ, ◌<◌}
 use native.Mathlib.Omega.{arith}
 use lib.ListN.{length}
 use Rattle.records.specs.declared.reading.Run.{Run}
 use Rattle.records.specs.Records.{fold_in, units_in, nodes_in, wires_in, wire_place, marked}
 use Rattle.records.specs.Answers.{unit_part, node_part, place, mark_of, unit_run, node_run, wire_run, Inside, units_in_run, nodes_in_run}
-use Rattle.records.proofs.AnswerLaws.{in_run, units_inside, nodes_inside, wires_inside}
+use Rattle.records.proofs.AnswerLaws.{units_inside, nodes_inside}
 use Rattle.sheets.specs.declared.Sheet.{Sheet as Header}
 use Rattle.sheets.specs.Sheet.{unit_of, node_of, wire_of, sheet_format, wire_at, sheet_of}
 use Rattle.sheets.specs.Answers.{header_of, Whole}
@@ -49,9 +49,6 @@ module _ (b : List ℕ) (s : Header) (w : Whole b s) where
   pub node_room : (r : Run) → r ≡ node_run sheet_format s.units s.nodes → Inside node_part r (length b)
   node_room r e = rw (e, long) (nodes_inside sheet_format s.units s.nodes s.wires node_part (omega arith))
 
-  pub wire_room : (r : Run) → r ≡ wire_run sheet_format s.units s.nodes s.wires → Inside sheet_format.wire_length r (length b)
-  wire_room r e = rw (e, long) (wires_inside sheet_format s.units s.nodes s.wires sheet_format.wire_length (omega arith))
-
   pub unit_got : (r : Run) → r ≡ unit_run sheet_format s.units → (q : ℕ) → q < s.units → units_in_run b r q ≡ unit_of (sheet_of b) q
   unit_got r e q l = rw e (sym (unit_read b q (omega (arith, units_is b, units_said))))
 
@@ -60,16 +57,6 @@ module _ (b : List ℕ) (s : Header) (w : Whole b s) where
 
   pub wire_got : (r : Run) → r ≡ wire_run sheet_format s.units s.nodes s.wires → (e : ℕ) → e < s.wires → wire_at b (place r e) ≡ wire_of (sheet_of b) e
   wire_got r h e l = rw (h, units_said, nodes_said) (sym (wire_read b e (omega (arith, wires_is b, wires_said))))
-
-  -- each record has room behind its place
-  pub unit_ends : (r : Run) → r ≡ unit_run sheet_format s.units → (q : ℕ) → q < s.units → place r q + unit_part ≤ length b
-  unit_ends r e q l = in_run unit_part r (length b) q (unit_room r e) (omega (arith, ap (λ (r : Run). r.count) e))
-
-  pub node_ends : (r : Run) → r ≡ node_run sheet_format s.units s.nodes → (x : ℕ) → x < s.nodes → place r x + node_part ≤ length b
-  node_ends r e x l = in_run node_part r (length b) x (node_room r e) (omega (arith, ap (λ (r : Run). r.count) e))
-
-  pub wire_ends : (r : Run) → r ≡ wire_run sheet_format s.units s.nodes s.wires → (e : ℕ) → e < s.wires → place r e + sheet_format.wire_length ≤ length b
-  wire_ends r h e l = in_run sheet_format.wire_length r (length b) e (wire_room r h) (omega (arith, ap (λ (r : Run). r.count) h))
 
   pub wire_marked : (r : Run) → r ≡ wire_run sheet_format s.units s.nodes s.wires → (e : ℕ) →
       marked b (place r e) (mark_of r) ≡ marked b (wire_place sheet_format b e) sheet_format.wire_mark

@@ -1,16 +1,12 @@
 -- Only passes between functions: what reading a sheet answers, and what its wires feed. Assumes nothing.
-use Rattle.std.specs.Prelude.{◌≡◌, true, not, List, ℕ, ◌<◌, length}
+use Rattle.std.specs.Prelude.{◌≡◌, true, not, List, ℕ, ◌<◌, length, Result}
 use Rattle.words.specs.Loops.{first, unless, ◌then◌}
-use Rattle.records.specs.declared.reading.HeaderRead.{HeaderRead}
-use Rattle.records.specs.declared.reading.HeaderRead.TheVariants as H
+use Rattle.records.specs.declared.reading.Reason.{Reason}
 use Rattle.slots.specs.declared.feeding.Input.{Input}
 use Rattle.records.specs.Records.{fold_in, units_in, nodes_in, wires_in, counts_fit, wire_place, whole_length, record_fault, node_fits, clashes, fed_once}
-use Rattle.records.specs.Answers.{reason_number, answer, header_fault, front_fault}
+use Rattle.records.specs.Answers.{answered, header_fault, front_fault}
 use Rattle.sheets.specs.declared.Sheet.{Sheet as Header}
-use Rattle.sheets.specs.declared.judging.SheetRead.{SheetRead}
-use Rattle.sheets.specs.declared.judging.SheetRead.TheVariants as S
-use Rattle.sheets.specs.declared.judging.WireRead.{WireRead}
-use Rattle.sheets.specs.declared.judging.WireRead.TheVariants as W
+use Rattle.sheets.specs.declared.Wire.{Wire}
 use Rattle.sheets.specs.Sheet.{Sheet, unit_of, node_of, wire_of, sheet_format, sheet_of, wire_fits, feeds, sheet_fault}
 
 -- ---- the whole reading
@@ -19,14 +15,9 @@ use Rattle.sheets.specs.Sheet.{Sheet, unit_of, node_of, wire_of, sheet_format, s
 abbrev pub header_of : List ℕ → Header
 header_of b = record { fold = fold_in b; units = units_in b; nodes = nodes_in b; wires = wires_in b }
 
--- 01's number for each answer, 0 for a sheet
-abbrev pub sheet_number : SheetRead → ℕ
-sheet_number (S.Got s) = 0
-sheet_number (S.Refused why) = reason_number why
-
 -- "Each call ends in its result or one numbered refusal": the sheet that the header says, or the reason of the first fault
-unfoldable pub sheet_answer : List ℕ → SheetRead
-sheet_answer b = answer (S.Got (header_of b)) S.Refused (sheet_fault b)
+unfoldable pub sheet_answer : List ℕ → Result Header Reason
+sheet_answer b = answered (header_of b) (sheet_fault b)
 
 -- ---- its parts, in 01's order
 
@@ -34,24 +25,15 @@ sheet_answer b = answer (S.Got (header_of b)) S.Refused (sheet_fault b)
 abbrev pub head_fault : List ℕ → ℕ
 head_fault b = header_fault b sheet_format.header_length sheet_format.header_mark
 
-unfoldable pub header_answer : List ℕ → SheetRead
-header_answer b = answer (S.Got (header_of b)) S.Refused (head_fault b)
-
--- the header's answer as a sheet's
-abbrev pub sheet_read : HeaderRead → SheetRead
-sheet_read (H.Got h) = S.Got (record { fold = h.fold; units = h.units; nodes = h.nodes; wires = h.wires })
-sheet_read (H.Refused why) = S.Refused why
+unfoldable pub header_answer : List ℕ → Result Header Reason
+header_answer b = answered (header_of b) (head_fault b)
 
 -- the wires
 unfoldable pub wire_fault : List ℕ → ℕ → ℕ
 wire_fault b e = record_fault b (wire_place sheet_format b e) sheet_format.wire_mark (wire_fits (sheet_of b) (wire_of (sheet_of b) e))
 
-abbrev pub wire_number : WireRead → ℕ
-wire_number (W.Got w) = 0
-wire_number (W.Refused why) = reason_number why
-
-abbrev pub wire_answer : List ℕ → ℕ → WireRead
-wire_answer b e = answer (W.Got (wire_of (sheet_of b) e)) W.Refused (wire_fault b e)
+abbrev pub wire_answer : List ℕ → ℕ → Result Wire Reason
+wire_answer b e = answered (wire_of (sheet_of b) e) (wire_fault b e)
 
 abbrev pub wires_fault : List ℕ → ℕ
 wires_fault b = first (wires_in b) (wire_fault b)

@@ -4,43 +4,20 @@ ghost use Rattle.records.specs.Answers.{judged};
 ghost use Rattle.slots.specs.Slots.{SlotsOf};
 ghost use Rattle.slots.specs.Feeding.{FedOf};
 ghost use Rattle.sheets.specs.Sheet.{sheet_of, node_of, wire_fits};
-ghost use Rattle.sheets.specs.Answers.{Whole, HeaderSaid, Held, sheet_read, header_answer, sheet_answer, wire_number, wire_answer, wires_fault, records_fault, input_of, nodes_fault};
+ghost use Rattle.sheets.specs.Answers.{Whole, HeaderSaid, Held, header_answer, sheet_answer, wire_answer, wires_fault, records_fault, input_of, nodes_fault};
 
 use crate::{Sheet, Wire, node_of, wire_of};
 use records::Unit;
-use records::reading::{HeaderRead, Judged, Reason, judge_parts, marked};
-use slots::feeding::{Fed, Input, units_fed};
+use records::reading::{Reason, first_refused, judge_parts, mark_before_range, marked};
+use slots::feeding::{Fed, Input};
 use slots::{Slots, slots_in};
-use words::masks;
-
-// A sheet, or the reason of its first fault.
-#[derive(Clone, Copy)]
-pub enum SheetRead {
-    Got(Sheet),
-    Refused(Reason),
-}
-
-#[derive(Clone, Copy)]
-pub enum WireRead {
-    Got(Wire),
-    Refused(Reason),
-}
-
-// The header's answer, as a sheet's.
-fn sheet_read(got: HeaderRead) -> SheetRead
-    ensures { result ≡ sheet_read got }
-{
-    match got {
-        HeaderRead::Got(h) => SheetRead::Got(Sheet::new(h)),
-        HeaderRead::Refused(why) => SheetRead::Refused(why),
-    }
-}
 
 // The sheet that the header says.
-pub fn read_header(b: &[u8]) -> SheetRead
+pub fn read_header(b: &[u8]) -> Result<Sheet, Reason>
     ensures { result ≡ header_answer b.now }
 {
-    sheet_read(records::reading::read_header(b, Sheet::HEADER, Sheet::MARK, Sheet::HEADER_MARK))
+    let header = records::reading::read_header(b, Sheet::HEADER, Sheet::MARK, Sheet::HEADER_MARK)?;
+    Ok(Sheet::from(header))
 }
 
 // Whether a wire joins nodes, feeds an input that its node has, and has delays in their range.
@@ -57,65 +34,31 @@ fn wire_fits(b: &[u8], sheet: Sheet, w: Wire) -> bool
         & (w.delays <= Sheet::MOST_DELAYS)
 }
 
-pub fn read_wire(b: &[u8], sheet: Sheet, e: usize) -> WireRead
+pub fn read_wire(b: &[u8], sheet: Sheet, e: usize) -> Result<Wire, Reason>
     requires whole { Whole b.now sheet }
     requires e_lt_wires { e < sheet.wires }
     ensures { result ≡ wire_answer b.now e }
 {
-    let right = marked(b, sheet.wire_run(), e);
     let wire = wire_of(b, sheet, e);
     let fits = wire_fits(b, sheet, wire);
-    if !right {
-        return WireRead::Refused(Reason::Mark);
-    }
-    if !fits {
-        return WireRead::Refused(Reason::Range);
-    }
-    WireRead::Got(wire)
-}
-
-fn wire_judged(got: WireRead) -> Judged
-    ensures { result ≡ judged (wire_number got) }
-{
-    match got {
-        WireRead::Got(_) => Judged::Passed,
-        WireRead::Refused(why) => Judged::Refused(why),
-    }
+    mark_before_range(marked(b, sheet.wire_run(), e), fits, wire)
 }
 
 // The first fault of the wires.
-fn judge_wires(b: &[u8], sheet: Sheet) -> Judged
+fn judge_wires(b: &[u8], sheet: Sheet) -> Result<(), Reason>
     requires { Whole b.now sheet }
     ensures { result ≡ judged (wires_fault b.now) }
 {
-    let count = sheet.wires as usize;
-    let mut e = 0;
-    while e < count {
-        let got = read_wire(b, sheet, e);
-        let WireRead::Got(_) = got else {
-            return wire_judged(got);
-        };
-        e += 1;
-    }
-    Judged::Passed
+    first_refused(sheet.wires as usize, |e| read_wire(b, sheet, e))
 }
 
 // The first fault of the length and the records.
-fn judge_records(b: &[u8], sheet: Sheet) -> Judged
+fn judge_records(b: &[u8], sheet: Sheet) -> Result<(), Reason>
     requires { HeaderSaid b.now sheet }
     ensures { result ≡ judged (records_fault b.now) }
 {
-    let wires = sheet.wire_run();
-    let judged = judge_parts(
-        b,
-        wires.place(wires.count),
-        sheet.fold,
-        sheet.unit_run(),
-        sheet.node_run(),
-    );
-    let Judged::Passed = judged else {
-        return judged;
-    };
+    let whole = sheet.wire_run().end();
+    judge_parts(b, whole, sheet.fold, sheet.unit_run(), sheet.node_run())?;
     judge_wires(b, sheet)
 }
 
@@ -147,53 +90,35 @@ fn fed_of(b: &[u8], sheet: Sheet) -> Fed
     requires { Held b.now sheet }
     ensures { FedOf sheet.wires (input_of (sheet_of b.now)) result }
 {
-    let count = sheet.wires as usize;
-    let mut twice = false;
-    let mut fed = [0u32; Fed::MASKS];
-    let mut e = 0;
-    while e < count {
-        let to = input_of(b, sheet, e);
-        let m = to.mask();
-        twice = twice | masks::has_slot(fed[m], to.slot);
-        fed[m] = masks::with_slot(fed[m], to.slot);
-        e += 1;
+    let mut fed = Fed::none();
+    for e in 0..sheet.wires as usize {
+        fed.feed(input_of(b, sheet, e));
     }
-    Fed { twice, masks: fed }
+    fed
 }
 
 // Clashes, and inputs not fed once.
-fn judge_nodes(b: &[u8], sheet: Sheet) -> Judged
+fn judge_nodes(b: &[u8], sheet: Sheet) -> Result<(), Reason>
     requires { Held b.now sheet }
     ensures { result ≡ judged (nodes_fault (sheet_of b.now)) }
 {
     let slots = slots_of(b, sheet);
     if slots.clash {
-        return Judged::Refused(Reason::Clash);
+        return Err(Reason::Clash);
     }
     let fed = fed_of(b, sheet);
-    let occupied = slots.occupied;
-    let masks = fed.masks;
-    if fed.twice | !units_fed(b, sheet.unit_run(), &occupied[..], &masks[..]) {
-        return Judged::Refused(Reason::Unfed);
+    if !fed.once(b, sheet.unit_run(), &slots.occupied) {
+        return Err(Reason::Unfed);
     }
-    Judged::Passed
+    Ok(())
 }
 
 // The sheet that the bytes are, or the reason of their first fault.
-pub fn judge(b: &[u8]) -> SheetRead
+pub fn judge(b: &[u8]) -> Result<Sheet, Reason>
     ensures { result ≡ sheet_answer b.now }
 {
-    let head = read_header(b);
-    let SheetRead::Got(sheet) = head else {
-        return head;
-    };
-    let records = judge_records(b, sheet);
-    if let Judged::Refused(why) = records {
-        return SheetRead::Refused(why);
-    }
-    let nodes = judge_nodes(b, sheet);
-    if let Judged::Refused(why) = nodes {
-        return SheetRead::Refused(why);
-    }
-    SheetRead::Got(sheet)
+    let sheet = read_header(b)?;
+    judge_records(b, sheet)?;
+    judge_nodes(b, sheet)?;
+    Ok(sheet)
 }

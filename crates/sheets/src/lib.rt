@@ -50,18 +50,9 @@ impl Sheet {
 
     pub const MOST_DELAYS: u8 = 63;
 
-    pub fn new(h: Header) -> Self
-        ensures { result ≡ record { fold = h.fold; units = h.units; nodes = h.nodes; wires = h.wires } }
-    {
-        Self {
-            fold: h.fold,
-            units: h.units,
-            nodes: h.nodes,
-            wires: h.wires,
-        }
-    }
-
     // Where the units stand, the nodes behind them, and the wires last.
+    // A plan's runs differ in the constants alone; a trait for both would state each constant again for its clauses, in the trait and in
+    // both types.
     pub fn unit_run(self) -> Run
         ensures { result ≡ unit_run sheet_format self.units }
     {
@@ -77,24 +68,27 @@ impl Sheet {
     pub fn node_run(self) -> Run
         ensures { result ≡ node_run sheet_format self.units self.nodes }
     {
-        Run {
-            at: Self::HEADER + Self::UNIT * self.units as usize,
-            size: Self::NODE,
-            count: self.nodes as usize,
-            first: Self::MARK,
-            second: Self::NODE_MARK,
-        }
+        self.unit_run()
+            .behind(Self::NODE, self.nodes, Self::NODE_MARK)
     }
 
     pub fn wire_run(self) -> Run
         ensures { result ≡ wire_run sheet_format self.units self.nodes self.wires }
     {
-        Run {
-            at: Self::HEADER + Self::UNIT * self.units as usize + Self::NODE * self.nodes as usize,
-            size: Self::WIRE,
-            count: self.wires as usize,
-            first: Self::MARK,
-            second: Self::WIRE_MARK,
+        self.node_run()
+            .behind(Self::WIRE, self.wires, Self::WIRE_MARK)
+    }
+}
+
+impl From<Header> for Sheet {
+    ghost from_gives = { λ h s. s ≡ record { fold = h.fold; units = h.units; nodes = h.nodes; wires = h.wires } };
+
+    fn from(h: Header) -> Sheet {
+        Sheet {
+            fold: h.fold,
+            units: h.units,
+            nodes: h.nodes,
+            wires: h.wires,
         }
     }
 }

@@ -87,9 +87,6 @@ module _ (node : ℕ → Node) where
         (set slots x.unit (with_slot (get_or slots x.unit 0) x.slot))
         (cond (eqb x.op op_port) (with_slot ports (channel_of x)) ports)) e taken_more)
 
-  pub taken_slots : (n : ℕ) (c : Bool) (slots : List ℕ) (ports : ℕ) → Taken n c slots ports → SlotsOf n node (record { clash = c; occupied = slots })
-  taken_slots n c slots ports t = record { clash_is = t.clash_is; taken = t.by_slot.held; small = t.by_slot.small }
-
 -- ---- the ones of a unit's mask are its occupied slots
 
 pub occupied_ones : (fold n : ℕ) (node : ℕ → Node) (s : Slots) (q : ℕ) → SlotsOf n node s → fold ≤ most_fold → ((x : ℕ) → x < n → (node x).slot < fold) →

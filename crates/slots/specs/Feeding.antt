@@ -1,7 +1,7 @@
 -- Only passes between functions: inputs fed, as masks. Mask 2q + i holds the slots in which input i of unit q is fed. Assumes nothing.
-use Rattle.std.specs.Prelude.{◌≡◌, Bool, ◌&&◌, ◌||◌, List, ℕ, ◌+◌, ◌*◌, ◌^◌, ◌<◌, leb, eqb, get_or}
+use Rattle.std.specs.Prelude.{◌≡◌, Bool, false, ◌&&◌, ◌||◌, List, ℕ, ◌+◌, ◌*◌, ◌^◌, ◌<◌, leb, eqb, get_or, set, replicate}
 use Rattle.words.specs.Loops.{every, some_of}
-use Rattle.words.specs.Masks.{in_mask}
+use Rattle.words.specs.Masks.{in_mask, with_slot}
 use Rattle.records.specs.declared.Unit.{Unit}
 use Rattle.slots.specs.declared.feeding.Input.{Input}
 use Rattle.slots.specs.declared.feeding.Fed.{Fed}
@@ -29,6 +29,15 @@ feeds_in q v i t = eqb t.unit q && eqb t.slot v && eqb t.input i
 -- two are one input
 abbrev pub same_input : Input → Input → Bool
 same_input t u = eqb (mask_of t) (mask_of u) && eqb t.slot u.slot
+
+-- no input fed, and one input more
+abbrev pub none_fed : Fed
+none_fed = record { masks = replicate 16 0; twice = false }
+
+abbrev pub with_fed : Fed → Input → Fed
+with_fed f t =
+    let mask = get_or f.masks (mask_of t) 0 in
+    record { masks = set f.masks (mask_of t) (with_slot mask t.slot); twice = f.twice || in_mask mask t.slot }
 
 -- what the masks say of w wires or switches of which number e feeds `to e`
 pub record FedOf (w : ℕ) (to : ℕ → Input) (f : Fed) : Type 0 where

@@ -1,12 +1,13 @@
 // Inputs fed, as masks: for each unit and input the slots in which it is fed. What feeds them, a sheet's wires or a plan's
 // switches, is read by the crates above.
-ghost use Rattle.std.specs.Prelude.{◌≡◌, ◌*◌, ◌<◌, ◌≤◌, length};
+ghost use Rattle.std.specs.Prelude.{◌≡◌, not, ◌&&◌, ◌*◌, ◌<◌, ◌≤◌, length};
 ghost use Rattle.records.specs.Records.{most_units};
 ghost use Rattle.records.specs.Answers.{unit_part, units_in_run, Inside};
-ghost use Rattle.slots.specs.Feeding.{most_inputs, mask_of, unit_fed, units_fed};
+ghost use Rattle.slots.specs.Feeding.{most_inputs, InputMasked, mask_of, none_fed, with_fed, unit_fed, units_fed};
 
 use records::Unit;
 use records::reading::{Header, Run, unit_in};
+use words::masks;
 
 // An input of the node on a unit in a slot.
 #[derive(Clone, Copy)]
@@ -27,7 +28,8 @@ impl Input {
     }
 }
 
-// The masks of the inputs fed, and whether one is fed twice.
+// The masks of the inputs fed, and whether one is fed twice. The masks stand beside the flag because a record further on or a clash is
+// refused before an input that is fed twice, so that they are filled to the end.
 #[derive(Clone, Copy)]
 pub struct Fed {
     pub masks: [u32; Fed::MASKS],
@@ -37,6 +39,35 @@ pub struct Fed {
 impl Fed {
     // One mask for each input of each unit.
     pub const MASKS: usize = Unit::MOST_INPUTS * Header::MOST_UNITS;
+
+    pub fn none() -> Self
+        ensures { result ≡ none_fed }
+    {
+        Self {
+            masks: [0; Self::MASKS],
+            twice: false,
+        }
+    }
+
+    // One input more is fed.
+    pub fn feed(&mut self, to: Input)
+        requires { InputMasked to }
+        ensures { self.new ≡ with_fed self.old to }
+    {
+        let m = to.mask();
+        self.twice = self.twice | masks::has_slot(self.masks[m], to.slot);
+        self.masks[m] = masks::with_slot(self.masks[m], to.slot);
+    }
+
+    // Whether no input is fed twice, and each unit's inputs are fed in its occupied slots and in no other.
+    pub fn once(&self, b: &[u8], units: Run, occupied: &[u32]) -> bool
+        requires inside { Inside unit_part units (length b.now) }
+        requires few { units.count ≤ most_units }
+        requires count_in_bounds { units.count ≤ length occupied.now }
+        ensures { result ≡ (units_fed units.count (units_in_run b.now units) occupied.now self.now.masks && not self.now.twice) }
+    {
+        units_fed(b, units, occupied, &self.masks) && !self.twice
+    }
 }
 
 // Whether each input that the kind has is fed in the occupied slots, and in no other.
@@ -54,14 +85,12 @@ pub fn units_fed(b: &[u8], units: Run, occupied: &[u32], masks: &[u32]) -> bool
     requires count_in_bounds_2 { most_inputs * units.count ≤ length masks.now }
     ensures { result ≡ units_fed units.count (units_in_run b.now units) occupied.now masks.now }
 {
-    let mut q = 0;
-    while q < units.count {
+    for q in 0..units.count {
         let unit = unit_in(b, units, q);
         let m = Unit::MOST_INPUTS * q;
         if !unit_fed(unit.kind, occupied[q], masks[m], masks[m + 1]) {
             return false;
         }
-        q += 1;
     }
     true
 }

@@ -14,7 +14,8 @@ use words::masks;
 
 pub mod feeding;
 
-// The masks of the units' occupied slots, and whether two nodes clash.
+// The masks of the units' occupied slots, and whether two nodes clash. The masks stand beside the flag because a plan's switches are
+// judged by them before a clash is refused.
 #[derive(Clone, Copy)]
 pub struct Slots {
     pub occupied: [u32; Header::MOST_UNITS],
@@ -50,14 +51,12 @@ pub fn slots_in(b: &[u8], nodes: Run) -> Slots
     let mut clash = false;
     let mut occupied = [0u32; Header::MOST_UNITS];
     let mut channels = 0;
-    let mut x = 0;
-    while x < nodes.count {
+    for x in 0..nodes.count {
         let n = node_in(b, nodes, x);
         let q = n.unit as usize;
         clash = clash | masks::has_slot(occupied[q], n.slot) | has_channel(channels, n);
         occupied[q] = masks::with_slot(occupied[q], n.slot);
         channels = with_channel(channels, n);
-        x += 1;
     }
     Slots { clash, occupied }
 }

@@ -1,10 +1,11 @@
 -- The least total, and the starts above it: one node more, and what they are for the latest row. Assumes nothing.
 use mathlib.Core.Path.{◌≡◌, refl, sym, ap, ◌∙◌, subst}
-use mathlib.Core.Bool.{true, false, cond, true≢false}
+use mathlib.Core.Bool.{cond}
 use mathlib.Core.List.{List}
 use Prim.Native.Nat.{ℕ, ◌+◌, ◌-◌, ◌<◌, ◌≤◌}
 use native.Mathlib.Numerals.{add-one}
 use native.Mathlib.Omega.{arith}
+use Rattle.std.specs.Prelude.{Some}
 use lib.IntN.{ℤ, pos, ◌-ℤ◌}
 use lib.Signed.{le_z}
 use mir.Syntax.{w32}
@@ -13,13 +14,14 @@ use Rattle.times.specs.declared.Iterations.{Iterations}
 use Rattle.words.proofs.FitLaws.{fits, dif_size}
 use Rattle.words.proofs.LoopLaws.{getD_tab}
 use Rattle.times.specs.Times.{iterations_at}
-use Rattle.folding.specs.Walks.{Net, minℤ, foldable, latest, deepest, start}
+use Rattle.folding.specs.Walks.{Net, minℤ, latest, deepest, start}
 use Rattle.folding.specs.Round.{round}
 use Rattle.folding.proofs.StartLaws.{start_is, deepest_met}
 use Rattle.folding.proofs.RoundLaws.{Closed, round_nonpos}
 use Rattle.folding.proofs.SettleLaws.{round_low}
 use Rattle.records.specs.Records.{most_nodes}
-use Rattle.rounds.specs.Rounds.{row_of, Moderate, Settling}
+use Rattle.rounds.specs.Rounds.{row_of, Moderate}
+use Rattle.rounds.specs.Settling.{Settling}
 use Rattle.starts.specs.Starts.{shifted, Timed}
 use Rattle.rounds.specs.declared.Settled.{Settled}
 use Rattle.rounds.proofs.RowLaws.{high_up}
@@ -55,23 +57,14 @@ module _ (g : Net) (l : List Iterations) (is : row_of g.nodes l ≡ latest g) wh
 
 -- ---- the answer, from that of the rounds
 
-module _ (g : Net) (r : Settled) (answer : Settling g r) where
-  pub unsettled_timed : r.settled ≡ false → (l : List Iterations) → Timed g (record { starts = l; rounds = r.rounds; settled = false })
-  unsettled_timed h l =
-      let f = sym answer.settled ∙ h in
-      record { settled = sym f; rounds = answer.rounds; starts = λ t. absurd (true≢false (sym t ∙ f)) }
+module _ (g : Net) (s : Settled) (answer : Settling g (Some s)) where
+  pub starts_fit : Closed g → Moderate g → g.nodes ≤ most_nodes → (u : ℕ) → u < g.nodes → SFits w32 (shifted (row_of g.nodes s.totals) g.nodes u)
+  starts_fit cl moderate few = shifted_fits g s.totals answer.totals cl moderate few
 
-  module _ (h : r.settled ≡ true) where
-    folds : foldable g ≡ true
-    folds = sym answer.settled ∙ h
-
-    pub starts_fit : Closed g → Moderate g → g.nodes ≤ most_nodes → (u : ℕ) → u < g.nodes → SFits w32 (shifted (row_of g.nodes r.totals) g.nodes u)
-    starts_fit cl moderate few = shifted_fits g r.totals (answer.totals folds) cl moderate few
-
-    pub settled_timed : (l : List Iterations) → ((u : ℕ) → u < g.nodes → iterations_at l u ≡ shifted (row_of g.nodes r.totals) g.nodes u) →
-        Timed g (record { starts = l; rounds = r.rounds; settled = true })
-    settled_timed l are = record {
-      settled = sym folds;
-      rounds = answer.rounds;
-      starts = λ t u k. are u k ∙ shifted_start g r.totals (answer.totals t) u k;
-    }
+  pub some_timed : (l : List Iterations) → ((u : ℕ) → u < g.nodes → iterations_at l u ≡ shifted (row_of g.nodes s.totals) g.nodes u) →
+      Timed g (Some (record { starts = l; rounds = s.rounds }))
+  some_timed l are = record {
+    settled = answer.settled;
+    rounds = answer.rounds;
+    starts = λ u k. are u k ∙ shifted_start g s.totals answer.totals u k;
+  }

@@ -1,5 +1,5 @@
 -- Only passes between functions: the starts that totals of bounds say. Assumes nothing.
-use Rattle.std.specs.Prelude.{◌≡◌, true, List, ℕ, ◌<◌, get_or, ℤ, pos, ◌-ℤ◌}
+use Rattle.std.specs.Prelude.{◌≡◌, List, ℕ, ◌<◌, get_or, ℤ, pos, ◌-ℤ◌, Option, is_some, IfSome}
 use Rattle.times.specs.Times.{iterations_at}
 use Rattle.folding.specs.Walks.{Net, chain, foldable, deepest, start}
 use Rattle.starts.specs.declared.Retimed.{Retimed}
@@ -9,7 +9,7 @@ abbrev pub shifted : List ℤ → ℕ → ℕ → ℤ
 shifted d n u = get_or d u (pos 0) -ℤ deepest d n
 
 -- whether the net folds, and where it does the chain and every node's start
-pub record Timed (g : Net) (r : Retimed) : Type 0 where
-  pub settled : r.settled ≡ foldable g
-  pub rounds : foldable g ≡ true → r.rounds ≡ chain g
-  pub starts : foldable g ≡ true → (u : ℕ) → u < g.nodes → iterations_at r.starts u ≡ pos (start g u)
+pub record Timed (g : Net) (r : Option Retimed) : Type 0 where
+  pub settled : is_some r ≡ foldable g
+  pub rounds : IfSome r (λ s. s.rounds ≡ chain g)
+  pub starts : IfSome r (λ s. (u : ℕ) → u < g.nodes → iterations_at s.starts u ≡ pos (start g u))

@@ -2,31 +2,24 @@
 use mathlib.Core.Path.{◌≡◌, sym, ap, ◌∙◌}
 use mathlib.Core.Bool.{true}
 use mathlib.Core.List.{List}
-use Prim.Native.Nat.{ℕ, zero, suc, ◌*◌, ◌%◌, ◌<◌, ◌≤◌}
+use Prim.Native.Nat.{ℕ, ◌*◌, ◌%◌, ◌≤◌}
 use native.Mathlib.Omega.{arith}
 use lib.Dec.{ltb, leb, eqb}
 use lib.ListN.{length}
 use borrow.Author.Tests.{leb-true}
+use Rattle.std.specs.Prelude.{Err}
 use Rattle.words.specs.Loops.{first, unless, joined}
 use Rattle.words.proofs.LoopLaws.{and_split, length_tab, getD_tab, joined_cong}
-use Rattle.words.proofs.FaultLaws.{first_hit, first_le, then_split, then_le, unless_true, unless_le}
+use Rattle.words.proofs.FaultLaws.{first_le, then_split, then_le, unless_true, unless_le}
 use Rattle.records.specs.declared.reading.Reason.{Reason}
-use Rattle.records.specs.declared.reading.Judged.TheVariants as J
 use Rattle.records.specs.Records.{at, between, most_nodes, most_wires}
-use Rattle.records.specs.Answers.{reason_number, reason_of, judged}
+use Rattle.records.specs.Answers.{judged, answer_number}
+use Rattle.records.specs.Numbers.{reason_number}
 use Rattle.records.proofs.ReadingLaws.{record_le}
-use Rattle.records.proofs.AnswerLaws.{reason_back}
+use Rattle.records.proofs.AnswerLaws.{number_answered}
 use Rattle.plans.specs.Plan.{loop_mark}
 use Rattle.numerals.specs.Numerals.{field}
 use Rattle.text.specs.Texting.{wires_shown, wire_at, loop_wires, loop_whole, wire_fault, loop_fault}
-
-refused_some : (f : ℕ) (why : Reason) → judged f ≡ J.Refused why → 0 < f
-refused_some zero why e = let z : ◌≡◌ {A = ℕ} 0 1 = cc in absurd (omega arith)
-refused_some (suc f) why e = omega arith
-
--- a run is refused as the record at which it stops
-pub run_stops : (n i : ℕ) (f : ℕ → ℕ) (why : Reason) → i < n → first i f ≡ 0 → judged (f i) ≡ J.Refused why → judged (f i) ≡ judged (first n f)
-run_stops n i f why l h e = ap judged (sym (first_hit n i f l h (refused_some (f i) why e)))
 
 module _ (b : List ℕ) where
   pub whole_of : loop_fault b ≡ 0 → loop_whole b ≡ true
@@ -39,10 +32,6 @@ module _ (b : List ℕ) where
       let t = and_split (eqb (length b % 3) 0) (between 1 (wires_shown b) most_nodes) w in
       (omega arith, leb-true (wires_shown b) most_nodes (and_split (leb 1 (wires_shown b)) (leb (wires_shown b) most_nodes) t.1).1)
 
-judged_reason : (f : ℕ) (why : Reason) → f ≤ 5 → judged f ≡ J.Refused why → reason_number why ≡ f
-judged_reason zero why l e = let z : ◌≡◌ {A = ℕ} 0 1 = cc in absurd (omega arith)
-judged_reason (suc n) why l e = let r : reason_of (suc n) ≡ why = cc in ap reason_number (sym r) ∙ reason_back (suc n) (omega arith) l
-
 loop_fault_le : (b : List ℕ) → loop_fault b ≤ 5
 unfolding loop_fault wire_fault
 loop_fault_le b =
@@ -50,8 +39,8 @@ loop_fault_le b =
     (first_le (wires_shown b) (wire_fault b) 5 (λ i. let l = record_le b (3 * i) loop_mark (ltb (wire_at b i) most_wires) in omega arith))
 
 -- a reason has the fault's number
-pub why_loop : (b : List ℕ) (why : Reason) → judged (loop_fault b) ≡ J.Refused why → reason_number why ≡ loop_fault b
-why_loop b why e = judged_reason (loop_fault b) why (loop_fault_le b) e
+pub why_loop : (b : List ℕ) (why : Reason) → judged (loop_fault b) ≡ Err why → reason_number why ≡ loop_fault b
+why_loop b why e = ap answer_number (sym e) ∙ number_answered tt (loop_fault b) (loop_fault_le b)
 
 -- the wires read in place are the loop's
 pub wires_so : (b : List ℕ) → joined (wires_shown b) (λ i. field " " (wire_at b i)) ≡ joined (length (loop_wires b)) (λ i. field " " (at (loop_wires b) i))

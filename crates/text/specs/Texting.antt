@@ -1,35 +1,28 @@
 -- What the text calls answer and leave in the lent buffer on every input. Assumes nothing.
-use Rattle.std.specs.Prelude.{◌≡◌, Bool, cond, ◌&&◌, List, ℕ, ◌+◌, ◌*◌, ◌/◌, ◌%◌, ◌≤◌, ltb, leb, eqb, length}
+use Rattle.std.specs.Prelude.{◌≡◌, Bool, cond, ◌&&◌, List, ℕ, ◌+◌, ◌*◌, ◌/◌, ◌%◌, ◌≤◌, ltb, leb, eqb, length, Result, Ok, Err}
 use Rattle.words.specs.Loops.{first, unless, ◌then◌}
 use Rattle.records.specs.Records.{at, over, between, most_units, most_nodes, most_wires, record_fault}
 use Rattle.plans.specs.Plan.{loop_mark, loop_length, loop_read}
 use Rattle.lines.specs.Text.{line_most}
-use Rattle.text.specs.declared.Texted.{Texted}
-use Rattle.text.specs.declared.Texted.TheVariants.{Done, Length, Mark, Range, Clash, Unfed, Short, Figures}
+use Rattle.records.specs.Numbers.{number_of, reason_number}
+use Rattle.text.specs.declared.NoText.{NoText}
+use Rattle.text.specs.declared.NoText.TheVariants as N
 
 -- ---- answers
 
 -- column no. of 01's table of refusals
-abbrev pub texted_number : Texted → ℕ
-texted_number (Done n) = 0
-texted_number Length = 1
-texted_number Mark = 2
-texted_number Range = 3
-texted_number Clash = 4
-texted_number Unfed = 5
-texted_number (Short n) = 7
-texted_number Figures = 9
+abbrev pub no_text_number : NoText → ℕ
+no_text_number (N.Refused why) = reason_number why
+no_text_number (N.Short n) = 7
+
+abbrev pub texted_number : Result ℕ NoText → ℕ
+texted_number = number_of no_text_number
 
 -- the length that it says: of the text at 0 and 7, otherwise 0
-abbrev pub texted_length : Texted → ℕ
-texted_length (Done n) = n
-texted_length Length = 0
-texted_length Mark = 0
-texted_length Range = 0
-texted_length Clash = 0
-texted_length Unfed = 0
-texted_length (Short n) = n
-texted_length Figures = 0
+abbrev pub texted_length : Result ℕ NoText → ℕ
+texted_length (Ok n) = n
+texted_length (Err (N.Refused why)) = 0
+texted_length (Err (N.Short n)) = n
 
 -- no text is longer: a plan's has its header's line and one for each unit, node and switch
 abbrev pub longest : ℕ

@@ -4,13 +4,14 @@ ghost use Rattle.words.specs.Loops.{first};
 ghost use Rattle.records.specs.Answers.{judged};
 ghost use Rattle.numerals.specs.Numerals.{field};
 ghost use Rattle.numerals.specs.Wrote.{Wrote};
+ghost use Rattle.numerals.specs.Written.{Written};
 ghost use Rattle.words.specs.Loops.{joined};
 ghost use Rattle.lines.specs.Text.{refused_text, loop_text, line_most};
 ghost use Rattle.text.specs.Texting.{longest, wire_at, loop_wires, loop_whole, wire_fault, loop_fault};
 
-use numerals::{byte_field, field, line_feed, word};
+use numerals::Text;
 use plans::Plan;
-use records::reading::{Header, Judged, Reason};
+use records::reading::{Header, Reason, first_refused, mark_before_range};
 
 // The number of an unfoldable sheet.
 const UNFOLDABLE: u32 = 6;
@@ -18,8 +19,10 @@ const UNFOLDABLE: u32 = 6;
 pub fn refused_line(number: u32, out: &mut [u8]) -> usize
     ensures { Wrote line_most out.old 0 (refused_text number) out.new result }
 {
-    let next = field(out, 0, b"refused ", number);
-    line_feed(out, next)
+    let mut text = Text::new(out);
+    text.field(b"refused ", number);
+    text.line_feed();
+    text.to
 }
 
 // Whether the bytes are as many whole records as a loop may have wires.
@@ -31,75 +34,54 @@ fn loop_whole(b: &[u8]) -> bool
 }
 
 // The fault of wire i's record.
-fn judge_wire(b: &[u8], i: usize) -> Judged
+#[tactic(auto, unfolding(crate::specs::Texting::wire_fault))]
+fn judge_wire(b: &[u8], i: usize) -> Result<(), Reason>
     requires { 3 * i + 3 ≤ length b.now }
     ensures { result ≡ judged (wire_fault b.now i) }
 {
     let at = Plan::LOOP * i;
-    if !((b[at] == Plan::MARK) & (b[at + 1] == Plan::LOOP_MARK)) {
-        return Judged::Refused(Reason::Mark);
-    }
-    if b[at + 2] as usize >= Header::MOST_WIRES {
-        return Judged::Refused(Reason::Range);
-    }
-    Judged::Passed
+    let right = (b[at] == Plan::MARK) & (b[at + 1] == Plan::LOOP_MARK);
+    let fits = (b[at + 2] as usize) < Header::MOST_WIRES;
+    mark_before_range(right, fits, ())
 }
 
 // The first fault of the records.
-fn judge_wires(b: &[u8], count: usize) -> Judged
+fn judge_wires(b: &[u8], count: usize) -> Result<(), Reason>
     requires { 3 * count ≤ length b.now }
     ensures { result ≡ judged (first count (wire_fault b.now)) }
 {
-    let mut i = 0;
-    while i < count {
-        let wire = judge_wire(b, i);
-        let Judged::Passed = wire else {
-            return wire;
-        };
-        i += 1;
-    }
-    Judged::Passed
+    first_refused(count, |i| judge_wire(b, i))
 }
 
 // The first fault of a loop's bytes.
-pub fn judge_loop(b: &[u8]) -> Judged
+pub fn judge_loop(b: &[u8]) -> Result<(), Reason>
     ensures { result ≡ judged (loop_fault b.now) }
 {
     if !loop_whole(b) {
-        return Judged::Refused(Reason::Length);
+        return Err(Reason::Length);
     }
     judge_wires(b, b.len() / Plan::LOOP)
 }
 
-// Wire i, behind a space.
-fn wire_field(b: &[u8], i: usize, out: &mut [u8], to: usize) -> usize
-    requires i_in_bounds { 3 * i + 3 ≤ length b.now }
-    requires to_bound { to + 11 < 2 ^ 64 }
-    ensures { Wrote 11 out.old to (field " " (wire_at b.now i)) out.new result }
-{
-    byte_field(out, to, b" ", b, Plan::LOOP * i + 2)
-}
-
-fn wire_fields(b: &[u8], count: usize, out: &mut [u8], to: usize) -> usize
+// The wires, each behind a space.
+fn wire_fields(b: &[u8], count: usize, text: &mut Text)
     requires count_in_bounds { 3 * count ≤ length b.now }
-    requires count_bound { to + 11 * count < 2 ^ 64 }
-    ensures { Wrote (11 * count) out.old to (joined count (λ (i : ℕ). field " " (wire_at b.now i))) out.new result }
+    requires count_bound { text.old.to + 11 * count < 2 ^ 64 }
+    ensures { Written (11 * count) text.old (joined count (λ (i : ℕ). field " " (wire_at b.now i))) text.new }
 {
-    let mut next = to;
-    let mut i = 0;
-    while i < count {
-        next = wire_field(b, i, out, next);
-        i += 1;
+    for i in 0..count {
+        text.byte_field(b" ", b, Plan::LOOP * i + 2);
     }
-    next
 }
 
 pub fn loop_line(b: &[u8], out: &mut [u8]) -> usize
     requires { loop_whole b.now ≡ true }
     ensures { Wrote longest out.old 0 (loop_text (loop_wires b.now)) out.new result }
 {
-    let number = field(out, 0, b"refused ", UNFOLDABLE);
-    let named = word(out, number, b" wires");
-    let wires = wire_fields(b, b.len() / Plan::LOOP, out, named);
-    line_feed(out, wires)
+    let mut text = Text::new(out);
+    text.field(b"refused ", UNFOLDABLE);
+    text.word(b" wires");
+    wire_fields(b, b.len() / Plan::LOOP, &mut text);
+    text.line_feed();
+    text.to
 }

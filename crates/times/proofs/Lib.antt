@@ -1,3 +1,3 @@
 -- Laws.
-pub mod ReadLaws
 pub mod ArrayLaws
+pub mod OrderLaws

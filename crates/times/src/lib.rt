@@ -1,35 +1,35 @@
-// Waits in cycles and starts in iterations, two types that no function adds: like is added to like, and N alone turns one into
+// Waits in cycles and starts in iterations, two types that no operator mixes: like is added to like, and N alone turns one into
 // the other. Their numbers are private: what needs one (its bytes, a place, a count of rounds) stands here. docs/DECISIONS.md says what
 // this stops and what it does not. Assumes nothing.
 #![tactic(auto)]
 
-ghost use Rattle.std.specs.Prelude.{◌≡◌, cond, ◌+◌, ◌-◌, ◌*◌, ◌/◌, ◌%◌, ◌<◌, ltb, pos, nat_abs, ◌+ℤ◌, ◌-ℤ◌, ◌*ℤ◌, ◌≤ℤ◌};
-ghost use Rattle.std.specs.Int.Signed.{lt_z, le_z};
+ghost use Rattle.std.specs.Prelude.{◌≡◌, ◌+◌, ◌-◌, ◌*◌, ◌/◌, ◌%◌, ◌<◌, ltb, pos, nat_abs, ◌+ℤ◌, ◌-ℤ◌, ◌*ℤ◌, ◌≤ℤ◌};
 ghost use Rattle.std.specs.Int.{w32};
 ghost use Rattle.std.proofs.Common.{SFits};
 ghost use Rattle.words.specs.Words.{floor};
-ghost use Rattle.times.specs.Times.{eqZ};
+
+use std::ops::{Add, Sub};
 
 // Raw waits, waits, taps and line lengths.
-#[derive(Clone, Copy)]
+#[derive(Clone, Copy, Debug, PartialEq, Eq, PartialOrd, Ord)]
 pub struct Cycles(i32);
 
 // Bounds, totals of bounds and starts.
-#[derive(Clone, Copy)]
+#[derive(Clone, Copy, Debug, PartialEq, Eq, PartialOrd, Ord)]
 pub struct Iterations(i32);
 
-fn two_bytes(low: u8, high: u8) -> i32
-    ensures { result ≡ pos (low + 256 * high) }
+// The two bytes that a record has for a number.
+fn two_bytes(number: i32) -> u16
+    requires { pos 0 ≤ℤ number }
+    ensures { result ≡ nat_abs number % 65536 }
 {
-    (low as u32 + 256 * high as u32) as i32
+    (number as u32 % 0x1_0000) as u16
 }
 
+// What both types have (zero, a sum, the field of two bytes) stands twice, here and below: one trait over both would hand their
+// numbers out, and the two could be mixed by it.
 impl Cycles {
-    pub fn zero() -> Cycles
-        ensures { result.0 ≡ pos 0 }
-    {
-        Cycles(0)
-    }
+    pub const ZERO: Self = Self(0);
 
     // The raw wait D = Nw − P + v − u of a wire with w delays from slot u of a unit of depth P to slot v.
     pub fn raw(fold: u8, delays: u8, depth: u8, from: u8, to: u8) -> Cycles
@@ -49,51 +49,12 @@ impl Cycles {
         Iterations(words::floor_div(self.0, fold))
     }
 
-    pub fn plus(self, other: Cycles) -> Cycles
-        requires { SFits w32 (self.0 +ℤ other.0) }
-        ensures { result.0 ≡ self.0 +ℤ other.0 }
-    {
-        Cycles(self.0 + other.0)
-    }
-
-    pub fn larger(self, other: Cycles) -> Cycles
-        ensures { result.0 ≡ cond (le_z self.0 other.0) other.0 self.0 }
-    {
-        if self.0 <= other.0 { other } else { self }
-    }
-
-    pub fn same(self, other: Cycles) -> bool
-        ensures { result ≡ eqZ self.0 other.0 }
-    {
-        self.0 == other.0
-    }
-
-    // The number itself, for this module alone.
-    fn count(self) -> u32
+    // The two bytes that a record has for it.
+    pub fn field(self) -> u16
         requires { pos 0 ≤ℤ self.0 }
-        ensures { result ≡ nat_abs self.0 }
+        ensures { result ≡ nat_abs self.0 % 65536 }
     {
-        self.0 as u32
-    }
-
-    pub fn low(self) -> u8
-        requires { pos 0 ≤ℤ self.0 }
-        ensures { result ≡ nat_abs self.0 % 256 }
-    {
-        (self.count() % 256) as u8
-    }
-
-    pub fn high(self) -> u8
-        requires { pos 0 ≤ℤ self.0 }
-        ensures { result ≡ nat_abs self.0 / 256 % 256 }
-    {
-        (self.count() / 256 % 256) as u8
-    }
-
-    pub fn of_bytes(low: u8, high: u8) -> Cycles
-        ensures { result.0 ≡ pos (low + 256 * high) }
-    {
-        Cycles(two_bytes(low, high))
+        two_bytes(self.0)
     }
 
     // How many whole rounds of N cycles there are.
@@ -102,7 +63,7 @@ impl Cycles {
         requires fold_nonzero { 0 < fold }
         ensures { result ≡ nat_abs self.0 / fold }
     {
-        self.count() / words::divisor(fold)
+        self.0 as u32 / words::divisor(fold)
     }
 
     // The cycles beyond whole rounds of N.
@@ -111,7 +72,7 @@ impl Cycles {
         requires fold_nonzero { 0 < fold }
         ensures { result ≡ nat_abs self.0 % fold }
     {
-        self.count() % words::divisor(fold)
+        self.0 as u32 % words::divisor(fold)
     }
 
     // The place that a tap reads on a unit of that depth: P − 1 + tap.
@@ -120,7 +81,7 @@ impl Cycles {
         requires depth_nonzero { 0 < depth }
         ensures { result ≡ depth - 1 + nat_abs self.0 }
     {
-        depth as usize - 1 + self.count() as usize
+        depth as usize - 1 + self.0 as usize
     }
 
     // How many places a unit of that depth has with a line of this length.
@@ -128,30 +89,32 @@ impl Cycles {
         requires { pos 0 ≤ℤ self.0 }
         ensures { result ≡ depth + nat_abs self.0 }
     {
-        depth as usize + self.count() as usize
+        depth as usize + self.0 as usize
+    }
+}
+
+impl From<u16> for Cycles {
+    ghost from_gives = { λ field r. r.0 ≡ pos field };
+
+    fn from(field: u16) -> Cycles {
+        Cycles(field as i32)
+    }
+}
+
+impl Add for Cycles {
+    type Output = Cycles;
+
+    ghost can_add = { λ a b. SFits w32 (a.0 +ℤ b.0) };
+
+    ghost add_gives = { λ a b r. r.0 ≡ a.0 +ℤ b.0 };
+
+    fn add(self, other: Cycles) -> Cycles {
+        Cycles(self.0 + other.0)
     }
 }
 
 impl Iterations {
-    pub fn zero() -> Iterations
-        ensures { result.0 ≡ pos 0 }
-    {
-        Iterations(0)
-    }
-
-    pub fn plus(self, other: Iterations) -> Iterations
-        requires { SFits w32 (self.0 +ℤ other.0) }
-        ensures { result.0 ≡ self.0 +ℤ other.0 }
-    {
-        Iterations(self.0 + other.0)
-    }
-
-    pub fn minus(self, other: Iterations) -> Iterations
-        requires { SFits w32 (self.0 -ℤ other.0) }
-        ensures { result.0 ≡ self.0 -ℤ other.0 }
-    {
-        Iterations(self.0 - other.0)
-    }
+    pub const ZERO: Self = Self(0);
 
     // That many iterations of N cycles each.
     pub fn cycles(self, fold: u8) -> Cycles
@@ -162,44 +125,12 @@ impl Iterations {
         Cycles(wait)
     }
 
-    pub fn below(self, other: Iterations) -> bool
-        ensures { result ≡ lt_z self.0 other.0 }
-    {
-        self.0 < other.0
-    }
-
-    pub fn lesser(self, other: Iterations) -> Iterations
-        ensures { result.0 ≡ cond (le_z self.0 other.0) self.0 other.0 }
-    {
-        if self.0 <= other.0 { self } else { other }
-    }
-
-    // The number itself, for this module alone.
-    fn count(self) -> u32
+    // The two bytes that a record has for it.
+    pub fn field(self) -> u16
         requires { pos 0 ≤ℤ self.0 }
-        ensures { result ≡ nat_abs self.0 }
+        ensures { result ≡ nat_abs self.0 % 65536 }
     {
-        self.0 as u32
-    }
-
-    pub fn low(self) -> u8
-        requires { pos 0 ≤ℤ self.0 }
-        ensures { result ≡ nat_abs self.0 % 256 }
-    {
-        (self.count() % 256) as u8
-    }
-
-    pub fn high(self) -> u8
-        requires { pos 0 ≤ℤ self.0 }
-        ensures { result ≡ nat_abs self.0 / 256 % 256 }
-    {
-        (self.count() / 256 % 256) as u8
-    }
-
-    pub fn of_bytes(low: u8, high: u8) -> Iterations
-        ensures { result.0 ≡ pos (low + 256 * high) }
-    {
-        Iterations(two_bytes(low, high))
+        two_bytes(self.0)
     }
 
     // Whether the iteration of a cycle, t div N, is below this start.
@@ -208,6 +139,38 @@ impl Iterations {
         requires fold_nonzero { 0 < fold }
         ensures { result ≡ ltb (cycle / fold) (nat_abs self.0) }
     {
-        cycle / (fold as u32) < self.count()
+        cycle / (fold as u32) < self.0 as u32
+    }
+}
+
+impl From<u16> for Iterations {
+    ghost from_gives = { λ field r. r.0 ≡ pos field };
+
+    fn from(field: u16) -> Iterations {
+        Iterations(field as i32)
+    }
+}
+
+impl Add for Iterations {
+    type Output = Iterations;
+
+    ghost can_add = { λ a b. SFits w32 (a.0 +ℤ b.0) };
+
+    ghost add_gives = { λ a b r. r.0 ≡ a.0 +ℤ b.0 };
+
+    fn add(self, other: Iterations) -> Iterations {
+        Iterations(self.0 + other.0)
+    }
+}
+
+impl Sub for Iterations {
+    type Output = Iterations;
+
+    ghost can_sub = { λ a b. SFits w32 (a.0 -ℤ b.0) };
+
+    ghost sub_gives = { λ a b r. r.0 ≡ a.0 -ℤ b.0 };
+
+    fn sub(self, other: Iterations) -> Iterations {
+        Iterations(self.0 - other.0)
     }
 }

@@ -1,7 +1,7 @@
 -- What is known of a sheet's bytes without fault, by their header. Assumes nothing.
 use mathlib.Core.Path.{◌≡◌, sym, ap, ◌∙◌}
 use mathlib.Core.List.{List}
-use Prim.Native.Nat.{ℕ, ◌<◌, ◌≤◌}
+use Prim.Native.Nat.{ℕ, ◌<◌}
 use native.Mathlib.Omega.{arith}
 use lib.ListN.{length}
 use Rattle.records.proofs.ReadingLaws.{Counts}
@@ -9,7 +9,7 @@ use Rattle.sheets.specs.declared.Sheet as Head
 use Rattle.sheets.specs.Sheet.{node_of, wire_of, sheet_of}
 use Rattle.sheets.specs.Sound.{Sound}
 use Rattle.sheets.proofs.SheetLaws.{Passed, passed, sound, counts_of, fold_is, units_is, nodes_is, wires_is}
-use Rattle.waits.specs.Fine.{Fine}
+use Rattle.waits.specs.Fine.{Fine, Within}
 
 module _ (b : List ℕ) (s : Head.Sheet) (f : Fine b s) where
   pub passed_so : Passed b
@@ -34,17 +34,14 @@ module _ (b : List ℕ) (s : Head.Sheet) (f : Fine b s) where
   pub wires_so : s.wires ≡ length (sheet_of b).wires
   wires_so = ap (λ (h : Head.Sheet). h.wires) f.whole.said ∙ sym (wires_is b)
 
-  pub fold_some : (0 < s.fold) × (s.fold ≤ 32)
-  fold_some = (omega (arith, counts_so.fold_least, fold_so, fold_is b), omega (arith, counts_so.fold_most, fold_so, fold_is b))
-
-  pub few_nodes : s.nodes ≤ 48
-  few_nodes = omega (arith, counts_so.nodes_most, nodes_so, nodes_is b)
-
-  pub few_wires : s.wires ≤ 96
-  few_wires = omega (arith, counts_so.wires_most, wires_so, wires_is b)
-
-  pub few_units : s.units ≤ 8
-  few_units = omega (arith, counts_so.units_most, units_so, units_is b)
+  pub within_so : Within s
+  within_so = record {
+    fold_least = omega (arith, counts_so.fold_least, fold_so, fold_is b);
+    fold_most = omega (arith, counts_so.fold_most, fold_so, fold_is b);
+    few_units = omega (arith, counts_so.units_most, units_so, units_is b);
+    few_nodes = omega (arith, counts_so.nodes_most, nodes_so, nodes_is b);
+    few_wires = omega (arith, counts_so.wires_most, wires_so, wires_is b);
+  }
 
   -- what each record names is there
   pub leaves_so : (e : ℕ) → e < s.wires → (wire_of (sheet_of b) e).from < s.nodes

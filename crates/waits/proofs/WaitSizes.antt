@@ -19,7 +19,7 @@ use Rattle.folding.specs.Folding.{net, depth_of, raw, wait, tap}
 use Rattle.folding.proofs.FoldingLaws.{folds_well}
 use Rattle.folding.proofs.SizeLaws.{small_of, start_le}
 use Rattle.waits.specs.Fine.{Fine, Started, Near}
-use Rattle.waits.proofs.FineLaws.{passed_so, sound_so, fold_so, nodes_so, wires_so, fold_some}
+use Rattle.waits.proofs.FineLaws.{passed_so, sound_so, fold_so, nodes_so, wires_so, within_so}
 
 near_size : (z : ℤ) → Near z → (up z ≤ 752) × (down z ≤ 0)
 unfolding up down
@@ -29,9 +29,6 @@ near_size (negsuc n) h = absurd (omega (arith, le_up h.0))
 -- the difference of two starts, and the same in cycles
 gap_size : (a b : ℤ) → Near a → Near b → (up (b -ℤ a) ≤ 752) × (down (b -ℤ a) ≤ 752)
 gap_size a b ha hb = let s = dif_size b a in (omega (arith, s.0, (near_size a ha).1, (near_size b hb).0), omega (arith, s.1, (near_size a ha).0, (near_size b hb).1))
-
-pub gap_fits_too : (a b : ℤ) → Near a → Near b → SFits w32 (b -ℤ a)
-gap_fits_too a b ha hb = let s = gap_size a b ha hb in fits (b -ℤ a) (omega (arith, s.0)) (omega (arith, s.1))
 
 turns_size : (n : ℕ) (a b : ℤ) → n ≤ 32 → Near a → Near b → (up (pos n *ℤ (b -ℤ a)) ≤ 24064) × (down (pos n *ℤ (b -ℤ a)) ≤ 24064)
 turns_size n a b h ha hb =
@@ -63,7 +60,7 @@ module _ (b : List ℕ) (s : Head.Sheet) (f : Fine b s) where
       let y = pos s.fold *ℤ (c -ℤ a) in
       let d = sum_size x y in
       let r = raw_size e h in
-      let t = turns_size s.fold a c (fold_some b s f).1 ha hc in
+      let t = turns_size s.fold a c (within_so b s f).fold_most ha hc in
       fits (x +ℤ y) (omega (arith, d.0, r.0, t.0)) (omega (arith, d.1, r.1, t.1))
 
   -- a start lies in its range

@@ -1,10 +1,10 @@
 -- Only passes between functions: what the functions on waits ask of a sheet's bytes and of starts. Assumes nothing.
-use Rattle.std.specs.Prelude.{◌≡◌, true, cond, List, ℕ, ◌<◌, eqb, length, ℤ, pos, ◌≤ℤ◌}
+use Rattle.std.specs.Prelude.{◌≡◌, true, cond, List, ℕ, ◌<◌, ◌≤◌, eqb, length, ℤ, pos, ◌≤ℤ◌}
 use Rattle.times.specs.declared.Cycles.{Cycles}
 use Rattle.times.specs.declared.Iterations.{Iterations}
 use Rattle.words.specs.Loops.{largest}
 use Rattle.times.specs.Times.{iterations_at, cycles_at}
-use Rattle.records.specs.Records.{most_units, most_nodes}
+use Rattle.records.specs.Records.{most_fold, most_units, most_nodes, most_wires}
 use Rattle.sheets.specs.declared.Sheet as Head
 use Rattle.sheets.specs.Sheet.{node_of, wire_of, sheet_of, sheet_fault}
 use Rattle.sheets.specs.Answers.{Whole}
@@ -16,6 +16,14 @@ use Rattle.waits.specs.declared.Waited.{Waited}
 pub record Fine (b : List ℕ) (s : Head.Sheet) : Type 0 where
   pub whole : Whole b s
   pub fine : sheet_fault b ≡ 0
+
+-- a header's numbers are in their ranges, as those of bytes without fault are
+pub record Within (s : Head.Sheet) : Type 0 where
+  pub fold_least : 0 < s.fold
+  pub fold_most : s.fold ≤ most_fold
+  pub few_units : s.units ≤ most_units
+  pub few_nodes : s.nodes ≤ most_nodes
+  pub few_wires : s.wires ≤ most_wires
 
 -- the sheet folds, and these are its starts
 pub record Started (b : List ℕ) (starts : List Iterations) : Type 0 where

@@ -1,11 +1,11 @@
 -- Laws of words: a residue is below its modulus, so every value of the graph is a word; two's complement there and back.
 -- Assumes nothing.
-use Rattle.std.proofs.Common.{◌≡◌, ℕ, zero, suc, ◌+◌, ◌-◌, ◌*◌, ◌%◌, ◌^◌, ◌<◌, ◌≤◌, true, false, T, ltb, leb, ℤ, pos, negsuc, ◌+ℤ◌, ◌-ℤ◌, ◌*ℤ◌, neg_ℤ, sym, refl, ap, inl, inr, true≢false, lt_of_lt_of_le, mod-lt, mod-eq_of_lt, arith, lit<, leb→le, SFits, ltb-false, ltb-true, le-ltb, lt-ltb}
-use lib.Signed.{mag, lt_z, rem_z}
+use Rattle.std.proofs.Common.{◌≡◌, ℕ, suc, ◌+◌, ◌-◌, ◌*◌, ◌%◌, ◌^◌, ◌<◌, T, ltb, leb, ℤ, pos, negsuc, ◌+ℤ◌, ◌-ℤ◌, ◌*ℤ◌, refl, ap, inl, inr, lt_of_lt_of_le, mod-lt, mod-eq_of_lt, arith, lit<, leb→le, SFits, ltb-false, ltb-true, le-ltb, lt-ltb}
+use lib.Signed.{mag}
 use mir.Syntax.{Width}
 use mir.Val.{hbits}
 use Rattle.words.specs.Words.{turn, half_turn, whole_gain, floor, residue, signed, sum, difference, scale}
-use Rattle.words.proofs.Ints.{up, down, up_eq, sumℤ, difℤ}
+use Rattle.words.proofs.Ints.{up, down, difℤ}
 use Rattle.words.proofs.LoopLaws.{passed?}
 
 -- ---- residues
@@ -15,42 +15,7 @@ unfolding residue
 residue_below (pos a) n h = mod-lt a h
 residue_below (negsuc a) n h = omega arith
 
--- the machine's remainder has the sign of z; where it is below 0, the residue is a turn above it
-pub rem_up : (z : ℤ) → lt_z (rem_z z (pos turn)) (pos 0) ≡ true → rem_z z (pos turn) +ℤ pos turn ≡ pos (residue z turn)
-unfolding residue up down
-rem_up (pos a) h = absurd (let l = ltb-true (a % turn) 0 h in omega arith)
-rem_up (negsuc a) h = by_rem (suc a % turn) refl h
-  where
-    by_rem : (r : ℕ) → suc a % turn ≡ r → lt_z (neg_ℤ (pos r)) (pos 0) ≡ true →
-        neg_ℤ (pos r) +ℤ pos turn ≡ pos (turn - suc (a % turn))
-    by_rem zero e h = absurd (true≢false (sym h))
-    by_rem (suc r) e h = up_eq (omega (arith, sumℤ (negsuc r) (pos turn)))
-
-pub rem_same : (z : ℤ) → lt_z (rem_z z (pos turn)) (pos 0) ≡ false → rem_z z (pos turn) ≡ pos (residue z turn)
-unfolding residue
-rem_same (pos a) h = refl
-rem_same (negsuc a) h = by_rem (suc a % turn) refl h
-  where
-    by_rem : (r : ℕ) → suc a % turn ≡ r → lt_z (neg_ℤ (pos r)) (pos 0) ≡ false →
-        neg_ℤ (pos r) ≡ pos (turn - suc (a % turn))
-    by_rem zero e h = ap pos (omega arith)
-    by_rem (suc r) e h = absurd (true≢false h)
-
--- the low half of a word
-pub residue_half : (z : ℤ) → residue z turn % 65536 ≡ residue z 65536
-unfolding residue
-residue_half (pos a) = omega arith
-residue_half (negsuc a) = omega arith
-
 -- ---- two's complement
-
-pub signed_low : (half a : ℕ) → a < half → signed half a ≡ pos a
-unfolding signed
-signed_low half a h = rw (lt-ltb a half h) refl
-
-pub signed_high : (half a : ℕ) → half ≤ a → a < 2 * half → pos a -ℤ pos (2 * half) ≡ signed half a
-unfolding signed up down
-signed_high half a h l = rw (le-ltb a half h) (up_eq (omega (arith, difℤ (pos a) (pos (2 * half)))))
 
 pub mag_signed : (half a : ℕ) → a < 2 * half → mag (signed half a) < half
 unfolding signed

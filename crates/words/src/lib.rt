@@ -11,14 +11,14 @@ pub mod masks;
 pub fn sum(a: u32, b: u32) -> u32
     ensures { result ≡ sum a b }
 {
-    std::num::wrapping_add_u32(a, b)
+    a.wrapping_add(b)
 }
 
 // Input 0 − input 1.
 pub fn difference(a: u32, b: u32) -> u32
     ensures { result ≡ difference a b }
 {
-    std::num::wrapping_sub_u32(a, b)
+    a.wrapping_sub(b)
 }
 
 // The input read as signed, times K, over 32,768. A shift of a signed number rounds towards minus infinity.
@@ -33,41 +33,21 @@ pub fn scale(k: i16, a: u32) -> u32
 pub fn signed_word(a: u32) -> i64
     ensures { result ≡ signed half_turn a }
 {
-    if a < 0x8000_0000 {
-        a as i64
-    } else {
-        a as i64 - 0x1_0000_0000
-    }
+    a.cast_signed() as i64
 }
 
 // The word that z is, mod 2^32.
 pub fn to_word(z: i64) -> u32
     ensures { result ≡ residue z turn }
 {
-    let rest = z % 0x1_0000_0000;
-    if rest < 0 {
-        (rest + 0x1_0000_0000) as u32
-    } else {
-        rest as u32
-    }
-}
-
-// Two bytes read as two's complement.
-pub fn two_complement(w: u16) -> i16
-    ensures { result ≡ signed 32768 w }
-{
-    if w < 0x8000 {
-        w as i16
-    } else {
-        (w as i32 - 0x1_0000) as i16
-    }
+    z.rem_euclid(0x1_0000_0000) as u32
 }
 
 // The two bytes of which k is read: the low half of its word.
 pub fn to_bytes16(k: i16) -> u16
     ensures { result ≡ residue k 65536 }
 {
-    (to_word(k as i64) % 0x1_0000) as u16
+    k.cast_unsigned()
 }
 
 // n to divide by: one more than n − 1, so that what is compiled need not test it for 0.

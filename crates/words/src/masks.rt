@@ -23,5 +23,5 @@ pub fn has_slot(mask: u32, slot: u8) -> bool
 pub fn occupied(mask: u32) -> u32
     ensures { result ≡ count_ones mask }
 {
-    u32::count_ones(mask)
+    mask.count_ones()
 }

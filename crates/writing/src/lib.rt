@@ -11,54 +11,34 @@ use plans::{Joint, Plan};
 use records::{Node, Unit};
 use times::{Cycles, Iterations};
 
-// The low and the high byte of a two-byte field.
-fn low(field: u16) -> u8
-    ensures { result ≡ low field }
+// Bytes at a place.
+fn lay(out: &mut [u8], at: usize, bytes: &[u8])
+    requires { at + length bytes.now ≤ length out.old }
+    ensures { out.new ≡ laid out.old at bytes.now }
 {
-    (field % 256) as u8
-}
-
-fn high(field: u16) -> u8
-    ensures { result ≡ high field }
-{
-    (field / 256 % 256) as u8
-}
-
-// Two, three and four bytes at a place.
-fn write2(out: &mut [u8], at: usize, a: u8, b: u8)
-    requires { at + 2 ≤ length out.old }
-    ensures { out.new ≡ laid out.old at (a ∷ b ∷ []) }
-{
-    out[at] = a;
-    out[at + 1] = b;
-}
-
-fn write3(out: &mut [u8], at: usize, a: u8, b: u8, c: u8)
-    requires { at + 3 ≤ length out.old }
-    ensures { out.new ≡ laid out.old at (a ∷ b ∷ c ∷ []) }
-{
-    out[at] = a;
-    out[at + 1] = b;
-    out[at + 2] = c;
-}
-
-fn write4(out: &mut [u8], at: usize, a: u8, b: u8, c: u8, d: u8)
-    requires { at + 4 ≤ length out.old }
-    ensures { out.new ≡ laid out.old at (a ∷ b ∷ c ∷ d ∷ []) }
-{
-    out[at] = a;
-    out[at + 1] = b;
-    out[at + 2] = c;
-    out[at + 3] = d;
+    out[at..at + bytes.len()].copy_from_slice(bytes);
 }
 
 pub fn write_header(out: &mut [u8], plan: Plan, registers: u16, chain: u8)
     requires { 9 ≤ length out.old }
     ensures { out.new ≡ laid out.old 0 (head_bytes plan.fold plan.units plan.nodes plan.wires registers chain) }
 {
-    write4(out, 0, Plan::MARK, Plan::HEADER_MARK, plan.fold, plan.units);
-    write3(out, 4, plan.nodes, plan.wires, low(registers));
-    write2(out, 7, high(registers), chain);
+    let [low, high] = registers.to_le_bytes();
+    lay(
+        out,
+        0,
+        &[
+            Plan::MARK,
+            Plan::HEADER_MARK,
+            plan.fold,
+            plan.units,
+            plan.nodes,
+            plan.wires,
+            low,
+            high,
+            chain,
+        ],
+    );
 }
 
 pub fn write_unit(out: &mut [u8], at: usize, unit: Unit, line: Cycles, idle: u8)
@@ -66,17 +46,20 @@ pub fn write_unit(out: &mut [u8], at: usize, unit: Unit, line: Cycles, idle: u8)
     requires pos_bound { pos 0 ≤ℤ line.0 }
     ensures { out.new ≡ laid out.old at (unit_bytes (record { unit = unit; line = nat_abs line.0; idle = idle })) }
 {
-    write4(out, at, Plan::MARK, Plan::UNIT_MARK, unit.kind, unit.depth);
-    write3(out, at + 4, line.low(), line.high(), idle);
-}
-
-// A node's op and its K.
-fn write_op(out: &mut [u8], at: usize, node: Node)
-    requires { at + 3 ≤ length out.old }
-    ensures { out.new ≡ laid out.old at (node.op ∷ low (residue node.k 65536) ∷ high (residue node.k 65536) ∷ []) }
-{
-    let k = words::to_bytes16(node.k);
-    write3(out, at, node.op, low(k), high(k));
+    let [low, high] = line.field().to_le_bytes();
+    lay(
+        out,
+        at,
+        &[
+            Plan::MARK,
+            Plan::UNIT_MARK,
+            unit.kind,
+            unit.depth,
+            low,
+            high,
+            idle,
+        ],
+    );
 }
 
 pub fn write_node(out: &mut [u8], at: usize, node: Node, start: Iterations)
@@ -84,9 +67,23 @@ pub fn write_node(out: &mut [u8], at: usize, node: Node, start: Iterations)
     requires pos_bound { pos 0 ≤ℤ start.0 }
     ensures { out.new ≡ laid out.old at (node_bytes (record { node = node; start = nat_abs start.0 })) }
 {
-    write4(out, at, Plan::MARK, Plan::NODE_MARK, node.unit, node.slot);
-    write_op(out, at + 4, node);
-    write2(out, at + 7, start.low(), start.high());
+    let [k_low, k_high] = words::to_bytes16(node.k).to_le_bytes();
+    let [low, high] = start.field().to_le_bytes();
+    lay(
+        out,
+        at,
+        &[
+            Plan::MARK,
+            Plan::NODE_MARK,
+            node.unit,
+            node.slot,
+            node.op,
+            k_low,
+            k_high,
+            low,
+            high,
+        ],
+    );
 }
 
 pub fn write_switch(out: &mut [u8], at: usize, joint: Joint, tap: Cycles)
@@ -94,20 +91,26 @@ pub fn write_switch(out: &mut [u8], at: usize, joint: Joint, tap: Cycles)
     requires pos_bound { pos 0 ≤ℤ tap.0 }
     ensures { out.new ≡ laid out.old at (switch_bytes (record { unit = joint.unit; input = joint.input; slot = joint.slot; source = joint.source; tap = nat_abs tap.0 })) }
 {
-    write4(
+    let [low, high] = tap.field().to_le_bytes();
+    lay(
         out,
         at,
-        Plan::MARK,
-        Plan::SWITCH_MARK,
-        joint.unit,
-        joint.input,
+        &[
+            Plan::MARK,
+            Plan::SWITCH_MARK,
+            joint.unit,
+            joint.input,
+            joint.slot,
+            joint.source,
+            low,
+            high,
+        ],
     );
-    write4(out, at + 4, joint.slot, joint.source, tap.low(), tap.high());
 }
 
 pub fn write_loop_wire(out: &mut [u8], at: usize, wire: u8)
     requires { at + 3 ≤ length out.old }
     ensures { out.new ≡ laid out.old at (loop_wire_bytes wire) }
 {
-    write3(out, at, Plan::MARK, Plan::LOOP_MARK, wire);
+    lay(out, at, &[Plan::MARK, Plan::LOOP_MARK, wire]);
 }

@@ -14,18 +14,17 @@ use Rattle.cycle.proofs.results.Goals as goal
 
 pub bounds-memory-0 : goal.bounds-memory-0
 unfolding size
-bounds-memory-0 c = omega (arith, c.requires.ready.room)
+bounds-memory-0 c = omega (arith, c.requires.room, c.args.lines.now.long)
 
 pub slot_at-requires : goal.slot_at-requires
-slot_at-requires c = turns c.args.plan.now c.args.p c.requires.ready.taken
+slot_at-requires c = let p = c.args.lines.now.plan in turns p.b.now p.head p.taken
 
 pub returns : goal.returns
 returns c =
-    let b = c.args.plan.now in
-    let p = c.args.p in
+    let p = c.args.lines.now.plan in
     let m = c.args.memory.now in
-    let pl = plan_read b in
+    let pl = plan_read p.b.now in
     let words = c.inputs_in-words in
-    let turn = c.slot_at.ensures ∙ ap (λ (n : ℕ). at m 0 % n) (folds_so b p (whole_taken c.requires.ready.taken)) in
-    results_so b p c.requires.ready.taken m c.args.samples.now words.result c.results_in.result
-    (subst (λ (v : ℕ). Gathered p.wires (in_slot pl v) (input_place pl) (tapped pl m) 16 words.result) turn words.ensures) c.results_in.ensures
+    let turn = c.slot_at.ensures ∙ ap (λ (n : ℕ). at m 0 % n) (folds_so p.b.now p.head (whole_taken p.taken)) in
+    results_so p.b.now p.head p.taken m c.args.samples.now words.result c.results_in.result
+    (subst (λ (v : ℕ). Gathered p.head.wires (in_slot pl v) (input_place pl) (tapped pl m) 16 words.result) turn words.ensures) c.results_in.ensures

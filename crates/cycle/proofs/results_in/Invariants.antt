@@ -1,5 +1,5 @@
 -- `cycle::results_in` meets its contract: what its loop keeps.
-use Prim.Native.Nat.{◌-◌, ◌%◌, ◌≤◌}
+use Prim.Native.Nat.{◌%◌}
 use mathlib.Core.Path.{◌≡◌}
 use lib.ListN.{length}
 use Rattle.plans.specs.Plan.{plan_read}
@@ -9,8 +9,5 @@ use Rattle.cycle.proofs.results_in.Given as goal
 
 abbrev pub invariant-loop-x : goal.invariant-loop-x
 invariant-loop-x l =
-    (l.x ≤ l.p.nodes) × (length l.results ≡ 8)
-    × Gathered l.x (node_in_slot (plan_read l.plan) (l.t % (plan_read l.plan).fold)) (node_unit (plan_read l.plan)) (given (plan_read l.plan) l.t l.samples l.words) 8 l.results
-
-abbrev pub decreases-loop-x : goal.decreases-loop-x
-decreases-loop-x l = l.p.nodes - l.x
+    (length l.results ≡ 8)
+    × Gathered l.x (node_in_slot (plan_read l.plan.b.now) (l.t % (plan_read l.plan.b.now).fold)) (node_unit (plan_read l.plan.b.now)) (given (plan_read l.plan.b.now) l.t l.samples l.words) 8 l.results

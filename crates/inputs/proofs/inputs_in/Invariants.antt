@@ -1,5 +1,4 @@
 -- `inputs::inputs_in` meets its contract: what its loop keeps.
-use Prim.Native.Nat.{◌-◌, ◌≤◌}
 use mathlib.Core.Path.{◌≡◌}
 use lib.ListN.{length}
 use Rattle.plans.specs.Plan.{plan_read}
@@ -7,7 +6,4 @@ use Rattle.inputs.specs.Inputs.{Gathered, in_slot, input_place, tapped}
 use Rattle.inputs.proofs.inputs_in.Given as goal
 
 abbrev pub invariant-loop-e : goal.invariant-loop-e
-invariant-loop-e l = (l.e ≤ l.p.wires) × (length l.words ≡ 16) × Gathered l.e (in_slot (plan_read l.plan) l.slot) (input_place (plan_read l.plan)) (tapped (plan_read l.plan) l.memory) 16 l.words
-
-abbrev pub decreases-loop-e : goal.decreases-loop-e
-decreases-loop-e l = l.p.wires - l.e
+invariant-loop-e l = (length l.words ≡ 16) × Gathered l.e (in_slot (plan_read l.lines.plan.b.now) l.slot) (input_place (plan_read l.lines.plan.b.now)) (tapped (plan_read l.lines.plan.b.now) l.memory) 16 l.words

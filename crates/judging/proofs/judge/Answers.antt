@@ -1,37 +1,47 @@
 -- `judging::judge` meets its contract: the first part with a fault decides, in 01's order. Assumes nothing.
-use mathlib.Core.Path.{◌≡◌, sym, ◌∙◌}
+use Rattle.std.proofs.Common.{◌≡◌, Ok, Err, sym, ap, ◌∙◌, rules}
+use Rattle.words.specs.Loops.{◌then◌}
 use Rattle.records.specs.Answers.{front_fault}
-use Rattle.records.proofs.AnswerLaws.{passed_none}
-use Rattle.plans.specs.Plan.{plan_format}
-use Rattle.judging.specs.Answers.{head_fault, HeaderSaid}
+use Rattle.records.proofs.AnswerLaws.{got_none}
+use Rattle.plans.specs.Plan.{plan_format, plan_read}
+use Rattle.judging.specs.Answers.{head_fault, switches_fault, nodes_fault, HeaderSaid}
 use Rattle.judging.proofs.PartLaws.{head_refused, head_got, front_refused, rest_refused, all_passed, fronted}
 use Rattle.judging.proofs.judge.Goals as goal
-use Rattle.judging.proofs.judge.Goals.{In-Got, In_default-front}
+use Rattle.judging.proofs.judge.Goals.{In_ok-p, In_ok-judge_front}
 
-pub returns-in_default : goal.returns-in_default
-returns-in_default c = c.in_default.is ∙ head_refused _ c.in_default.field-0 (sym c.read_header-head.ensures ∙ c.in_default.is)
+pub returns-in_err-p : goal.returns-in_err-p
+returns-in_err-p c =
+    let why : c.from_residual.result ≡ Err c.in_err-p.field-0.0 = search rules in
+    why ∙ sym (head_refused c.args.b.now _ (sym c.read_header.ensures ∙ c.in_err-p.was))
 
-said : (c : In-Got) →
-    let b = c.args.b.now in
-    (head_fault b ≡ 0) × HeaderSaid b c.in-Got.p
-said c = head_got _ c.in-Got.p (sym c.read_header-head.ensures ∙ c.in-Got.is)
+said : (c : In_ok-p) → (head_fault c.args.b.now ≡ 0) × HeaderSaid c.args.b.now c.in_ok-p.p
+said c = head_got _ c.in_ok-p.p (sym c.read_header.ensures ∙ c.in_ok-p.was)
 
-pub judge_front-front-requires : goal.judge_front-front-requires
-judge_front-front-requires c = (said c).1
+pub judge_front-requires : goal.judge_front-requires
+judge_front-requires c = (said c).1
 
-pub returns-in-Refused : goal.returns-in-Refused
-returns-in-Refused c = front_refused _ (said (goal.at.returns-in-Refused c).In-Got).0 _ (sym c.judge_front-front.ensures ∙ c.in-Refused.is)
+pub returns-in_err-judge_front : goal.returns-in_err-judge_front
+returns-in_err-judge_front c =
+    let h = said (goal.at.returns-in_err-judge_front c).In_ok-p in
+    let why : c.from_residual-in_err-judge_front.result ≡ Err c.in_err-judge_front.field-0.0 = search rules in
+    why ∙ sym (front_refused c.args.b.now h.0 _ (sym c.judge_front.ensures ∙ c.in_err-judge_front.was))
 
-clear : (c : In_default-front) → front_fault plan_format c.args.b.now ≡ 0
-clear c = passed_none _ (sym c.judge_front-front.ensures ∙ c.in_default-front.is)
+clear : (c : In_ok-judge_front) → front_fault plan_format c.args.b.now ≡ 0
+clear c = (got_none tt _ (front_fault plan_format c.args.b.now) (sym c.judge_front.ensures ∙ c.in_ok-judge_front.was)).0
 
-pub judge_rest-rest-requires : goal.judge_rest-rest-requires
-judge_rest-rest-requires c = fronted _ _ (said (goal.at.judge_rest-rest-requires c).In-Got).1 (clear c)
+pub judge_rest-requires : goal.judge_rest-requires
+judge_rest-requires c = fronted _ _ (said (goal.at.judge_rest-requires c).In_ok-p).1 (clear c)
 
-pub returns-in-Refused-rest : goal.returns-in-Refused-rest
-returns-in-Refused-rest c = rest_refused _ (said (goal.at.returns-in-Refused-rest c).In-Got).0 (clear (goal.at.returns-in-Refused-rest c).In_default-front) _ (sym c.judge_rest-rest.ensures ∙ c.in-Refused-rest.is)
+pub returns-in_err-judge_rest : goal.returns-in_err-judge_rest
+returns-in_err-judge_rest c =
+    let at = goal.at.returns-in_err-judge_rest c in
+    let h = said at.In_ok-p in
+    let why : c.from_residual-in_err-judge_rest.result ≡ Err c.in_err-judge_rest.field-0.0 = search rules in
+    why ∙ sym (rest_refused c.args.b.now h.0 (clear at.In_ok-judge_front) _ (sym c.judge_rest.ensures ∙ c.in_err-judge_rest.was))
 
 pub returns : goal.returns
 returns c =
-    let h = said (goal.at.returns c).In-Got in
-    all_passed _ h.0 (clear (goal.at.returns c).In_default-front) _ h.1.said (passed_none _ (sym c.judge_rest-rest.ensures ∙ c.in_default-rest.is))
+    let b = c.args.b.now in
+    let h = said (goal.at.returns c).In_ok-p in
+    let none = got_none tt _ (switches_fault b then nodes_fault (plan_read b)) (sym c.judge_rest.ensures ∙ c.in_ok-judge_rest.was) in
+    ap Ok h.1.said ∙ sym (all_passed b h.0 (clear (goal.at.returns c).In_ok-judge_front) none.0)

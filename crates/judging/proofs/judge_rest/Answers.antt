@@ -1,50 +1,47 @@
 -- `judging::judge_rest` meets its contract: the first part with a fault decides. Assumes nothing.
-use mathlib.Core.Path.{◌≡◌, refl, sym, ◌∙◌}
-use mathlib.Core.Bool.{not}
-use lib.ListN.{length}
+use Rattle.std.proofs.Common.{◌≡◌, Err, not, sym, ◌∙◌, rules}
 use Rattle.words.specs.Loops.{unless}
-use Rattle.records.specs.declared.reading.Judged.TheVariants as J
 use Rattle.records.specs.Answers.{reason_of}
-use Rattle.records.proofs.AnswerLaws.{passed_none, refused_first}
+use Rattle.records.proofs.AnswerLaws.{refused_first}
 use Rattle.plans.specs.Plan.{plan_read}
-use Rattle.judging.specs.Answers.{switches_fault, clash_fault, nodes_fault, Occupied}
+use Rattle.judging.specs.Answers.{switches_fault, clash_fault, nodes_fault, Occupied, Joins}
 use Rattle.judging.proofs.PartLaws.{held}
 use Rattle.judging.proofs.SwitchLaws.{slots_occupied, clash_by_masks}
-use borrow.Author.Rules.{rules}
 use Rattle.judging.proofs.judge_rest.Goals as goal
-use Rattle.judging.proofs.judge_rest.Goals.{After-join_switches-joined, After-slots_of-slots, In-Passed}
+use Rattle.judging.proofs.judge_rest.Goals.{After-slots_of-slots, In_ok-joined}
 
 occupied_by : (c : After-slots_of-slots) → Occupied (plan_read c.args.b.now) c.slots_of-slots.result.occupied
 occupied_by c = slots_occupied _ _ c.requires.whole c.slots_of-slots.result c.slots_of-slots.ensures (search rules)
 
-pub join_switches-joined-requires : goal.join_switches-joined-requires
-join_switches-joined-requires c =
-    record { fronted = c.requires; occupied = occupied_by (goal.at.join_switches-joined-requires c).After-slots_of-slots }
+pub join_switches-requires-clause-occupied : goal.join_switches-requires-clause-occupied
+join_switches-requires-clause-occupied c = occupied_by (goal.at.join_switches-requires-clause-occupied c).After-slots_of-slots
 
-pub returns-in_default : goal.returns-in_default
-returns-in_default c =
+pub returns-in_err-joined : goal.returns-in_err-joined
+returns-in_err-joined c =
     let b = c.args.b.now in
-    c.in_default.is ∙ sym (refused_first J.Passed J.Refused (switches_fault b) (nodes_fault (plan_read b)) c.in_default.field-0 (sym c.join_switches-joined.ensures.judged_is ∙ c.in_default.is))
+    let why : c.from_residual.result ≡ Err c.in_err-joined.field-0.0 = search rules in
+    why ∙ sym (refused_first tt tt (switches_fault b) (nodes_fault (plan_read b)) _ (c.join_switches.ensures.refused _ c.in_err-joined.was))
 
 -- the switches have no fault
-clear : (c : In-Passed) → switches_fault c.args.b.now ≡ 0
-clear c = passed_none _ (sym c.join_switches-joined.ensures.judged_is ∙ c.in-Passed.is)
+clear : (c : In_ok-joined) → (switches_fault c.args.b.now ≡ 0) × Joins (plan_read c.args.b.now) c.args.p.wires c.in_ok-joined.joined
+clear c = c.join_switches.ensures.joins _ c.in_ok-joined.was
 
-clash_is : (c : In-Passed) → clash_fault (plan_read c.args.b.now) ≡ unless (not c.slots_of-slots.result.clash) 4
+clash_is : (c : In_ok-joined) → clash_fault (plan_read c.args.b.now) ≡ unless (not c.slots_of-slots.result.clash) 4
 clash_is c = clash_by_masks _ _ c.requires.whole c.slots_of-slots.result c.slots_of-slots.ensures
 
 pub returns-then-slots : goal.returns-then-slots
 unfolding reason_of
-returns-then-slots c = rw (clear (goal.at.returns-then-slots c).In-Passed, clash_is (goal.at.returns-then-slots c).In-Passed, c.if-slots.true) refl
-
--- a mask for each input of eight units
-sixteen : (c : After-join_switches-joined) → length c.join_switches-joined.result.fed.masks ≡ 16
-sixteen c = search rules
+returns-then-slots c =
+    let at = goal.at.returns-then-slots c in
+    simp ((clear at.In_ok-joined).0, clash_is at.In_ok-joined, c.if-slots.true)
 
 pub judge_inputs-requires : goal.judge_inputs-requires
 judge_inputs-requires c =
-    let joins = c.join_switches-joined.ensures.joins c.in-Passed.is in
-    record { held = held _ _ c.requires (clear (goal.at.judge_inputs-requires c).In-Passed); occupied = occupied_by (goal.at.judge_inputs-requires c).After-slots_of-slots; fed_of = joins.fed_so; masks_len = sixteen (goal.at.judge_inputs-requires c).After-join_switches-joined; taps_of = joins.taps_so }
+    let at = goal.at.judge_inputs-requires c in
+    let joins = clear at.In_ok-joined in
+    record { held = held _ _ c.requires joins.0; occupied = occupied_by at.After-slots_of-slots; joins = joins.1 }
 
 pub returns : goal.returns
-returns c = rw (clear (goal.at.returns c).In-Passed, clash_is (goal.at.returns c).In-Passed, c.if-slots.false) c.judge_inputs.ensures
+returns c =
+    let at = goal.at.returns c in
+    rw ((clear at.In_ok-joined).0, clash_is at.In_ok-joined, c.if-slots.false) c.judge_inputs.ensures

@@ -2,14 +2,11 @@
 use mathlib.Core.Path.{refl}
 use borrow.Author.Tests.{leb-true}
 use Rattle.lines.specs.Text.{node_line}
-use Rattle.numerals.proofs.WroteLaws.{within, wrote_length, wrote_then}
+use Rattle.numerals.proofs.WrittenLaws.{written_then, written_within}
 use Rattle.lines.proofs.node_line.Goals as goal
 
 pub returns : goal.returns
 unfolding node_line
 returns c =
-    within 128 (leb-true _ 128 refl)
-    (wrote_then c.field-number.ensures (wrote_then c.byte_field-unit.ensures (wrote_then c.byte_field-slot.ensures (wrote_then c.byte_field-op.ensures (wrote_then c.signed_field-k.ensures (wrote_then c.two_field-start.ensures c.line_feed.ensures))))))
-
-pub shape_of-out : goal.shape_of-out
-shape_of-out c = wrote_length (returns c)
+    written_within 128 (leb-true _ 128 refl)
+    (written_then c.field.ensures (written_then c.byte_field.ensures (written_then c.byte_field-2.ensures (written_then c.byte_field-3.ensures (written_then c.signed_field.ensures (written_then c.two_field.ensures c.line_feed.ensures))))))

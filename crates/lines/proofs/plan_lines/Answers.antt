@@ -1,10 +1,13 @@
 -- `lines::plan_lines` meets its contract: the header's line, then each sort of record. Assumes nothing.
+use Prim.Native.Nat.{◌+◌, ◌*◌}
+use borrow.Author.Rules.{rules}
 use native.Mathlib.Omega.{arith}
-use Rattle.numerals.proofs.WroteLaws.{wrote_then, within}
+use Rattle.numerals.proofs.WrittenLaws.{written_then, written_within, written_out}
 use Rattle.lines.proofs.LineLaws.{text_so}
 use Rattle.lines.proofs.plan_lines.Goals as goal
 
 pub returns : goal.returns
 returns c =
-    let lines = wrote_then c.head_line-header.ensures (wrote_then c.unit_lines-units.ensures (wrote_then c.node_lines-nodes.ensures c.switch_lines.ensures)) in
-    within _ (omega arith) (rw (text_so _ _ c.requires) at lines)
+    let lines = written_then c.head_line.ensures (written_then c.unit_lines.ensures (written_then c.node_lines.ensures c.switch_lines.ensures)) in
+    let all = written_within (128 * (1 + c.args.p.units + c.args.p.nodes + c.args.p.wires)) (omega arith) (rw (text_so _ _ c.requires) at lines) in
+    written_out c.new-text.ensures.begins (search rules) all

@@ -2,14 +2,11 @@
 use mathlib.Core.Path.{refl}
 use borrow.Author.Tests.{leb-true}
 use Rattle.lines.specs.Text.{unit_line}
-use Rattle.numerals.proofs.WroteLaws.{within, wrote_length, wrote_then}
+use Rattle.numerals.proofs.WrittenLaws.{written_then, written_within}
 use Rattle.lines.proofs.unit_line.Goals as goal
 
 pub returns : goal.returns
 unfolding unit_line
 returns c =
-    within 128 (leb-true _ 128 refl)
-    (wrote_then c.field-number.ensures (wrote_then c.byte_field-kind.ensures (wrote_then c.byte_field-depth.ensures (wrote_then c.two_field-line.ensures (wrote_then c.byte_field-idle.ensures c.line_feed.ensures)))))
-
-pub shape_of-out : goal.shape_of-out
-shape_of-out c = wrote_length (returns c)
+    written_within 128 (leb-true _ 128 refl)
+    (written_then c.field.ensures (written_then c.byte_field.ensures (written_then c.byte_field-2.ensures (written_then c.two_field.ensures (written_then c.byte_field-3.ensures c.line_feed.ensures)))))

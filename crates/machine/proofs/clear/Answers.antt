@@ -1,10 +1,27 @@
--- `machine::clear` meets its contract: a plan with a fault is refused, and nothing changes. Assumes nothing.
-use mathlib.Core.Path.{sym, ◌∙◌}
-use Rattle.machine.proofs.CallLaws.{got_taken, clear_refused}
+-- `machine::clear` meets its contract: refused by the plan, 7 where there is no room, else cleared. Assumes nothing.
+use Rattle.std.proofs.Common.{refl, arith}
+use Rattle.std.proofs.lemmas.Result.{err_from_is_err_and}
+use Rattle.memory.specs.Memory.{size}
+use Rattle.machine.proofs.CallLaws.{known, clear_refused, clear_short, clear_done}
 use Rattle.machine.proofs.clear.Goals as goal
 
-pub clear_judged-requires : goal.clear_judged-requires
-clear_judged-requires c = got_taken _ _ (sym c.judge.ensures ∙ c.in-Got.is)
+pub returns-in_err-words : goal.returns-in_err-words
+returns-in_err-words c =
+    let p = err_from_is_err_and c.from_residual.result c.from_residual.ensures.1 in
+    rw (p.1, p.2) (clear_refused _ _ c.in_err-words.field-0.0 _ c.in_err-words.ensures.refused refl)
 
-pub returns-in-Refused : goal.returns-in-Refused
-returns-in-Refused c = clear_refused _ _ _ _ (sym c.judge.ensures ∙ c.in-Refused.is) c.not_cleared.ensures
+pub returns-then-memory-words : goal.returns-then-memory-words
+returns-then-memory-words c =
+    let l = c.in_ok-words.field-0 in
+    let k = known c.args.plan.now _ _ _ c.in_ok-words.ensures.got l.plan.taken l.long in
+    clear_short _ _ _ k.0 _ k.1 c.if-memory-words.true
+
+pub wipe-requires : goal.wipe-requires
+unfolding size
+wipe-requires c = omega (arith, c.in_ok-words.field-0.long, c.if-memory-words.false)
+
+pub returns : goal.returns
+returns c =
+    let l = c.in_ok-words.field-0 in
+    let k = known c.args.plan.now _ _ _ c.in_ok-words.ensures.got l.plan.taken l.long in
+    clear_done _ _ _ k.0 _ k.1 c.if-memory-words.false _ c.wipe.ensures

@@ -1,5 +1,4 @@
 -- `moving::leave` meets its contract: what its loop keeps.
-use Prim.Native.Nat.{◌-◌, ◌≤◌}
 use mathlib.Core.Path.{◌≡◌}
 use mathlib.Core.List.{◌++◌}
 use lib.ListN.{length, drop}
@@ -9,7 +8,4 @@ use Rattle.memory.specs.Memory.{reading}
 use Rattle.moving.proofs.leave.Given as goal
 
 abbrev pub invariant-loop-q : goal.invariant-loop-q
-invariant-loop-q l = (l.q ≤ l.p.units) × (l.out ≡ tab l.q (λ q. reading (plan_read l.plan) l.memory q 0) ++ drop l.q l.initial.out) × (length l.out ≡ length l.initial.out)
-
-abbrev pub decreases-loop-q : goal.decreases-loop-q
-decreases-loop-q l = l.p.units - l.q
+invariant-loop-q l = (l.out ≡ tab l.q (λ q. reading (plan_read l.lines.plan.b.now) l.memory q 0) ++ drop l.q l.initial.out) × (length l.out ≡ length l.initial.out)

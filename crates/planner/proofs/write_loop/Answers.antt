@@ -2,31 +2,23 @@
 use Prim.Native.Nat.{ℕ, ◌+◌, ◌*◌}
 use mathlib.Core.Path.{◌≡◌, refl, ap, ◌∙◌}
 use native.Mathlib.Omega.{arith}
-use lib.ListN.{length, get_or}
+use lib.ListN.{get_or}
 use Rattle.plans.specs.Plan.{loop_wire_bytes}
 use Rattle.writing.specs.Laid.{laid}
-use Rattle.writing.proofs.LaidLaws.{length_laid}
 use Rattle.writing.proofs.RecordLaws.{laid_none, laid_more, loop_laid}
 use Rattle.planner.proofs.write_loop.Goals as goal
 
 pub loop-i-init : goal.loop-i-init
-loop-i-init c = (omega arith, refl, laid_none loop_wire_bytes 3 (λ a. refl) (λ j. get_or c.args.wires.now j 0) c.args.out.now 0)
-
-pub write_loop_wire-requires : goal.write_loop_wire-requires
-write_loop_wire-requires c = omega (arith, c.loop-i-test.true, c.loop-i.invariant.1, c.requires)
+loop-i-init c = laid_none loop_wire_bytes 3 (λ a. refl) (λ j. get_or c.args.wires.now j 0) c.args.out.now 0
 
 pub loop-i-preserved : goal.loop-i-preserved
 loop-i-preserved c =
     let l = c.loop-i in
     let now = c.write_loop_wire in
-    let more = c.loop-i-test.true in (
-      omega (arith, more),
-      ap length now.ensures ∙ length_laid l.out (3 * l.i) _ ∙ l.invariant.1,
-      laid_more loop_wire_bytes 3 (λ a. refl) (λ j. get_or c.args.wires.now j 0) c.args.out.now 0 l.i l.out now.new.out (get_or c.args.wires.now l.i 0) l.invariant.2 refl
-          (now.ensures ∙ ap (λ (n : ℕ). laid l.out n (loop_wire_bytes (get_or c.args.wires.now l.i 0))) (let e : 3 * l.i ≡ 0 + 3 * l.i = omega arith in e)),
-    )
+    laid_more loop_wire_bytes 3 (λ a. refl) (λ j. get_or c.args.wires.now j 0) c.args.out.now 0 l.i l.out now.new.out (get_or c.args.wires.now l.i 0) l.invariant refl
+    (now.ensures ∙ ap (λ (n : ℕ). laid l.out n (loop_wire_bytes (get_or c.args.wires.now l.i 0))) (let e : 3 * l.i ≡ 0 + 3 * l.i = omega arith in e))
 
 pub returns : goal.returns
 returns c =
     let l = c.loop-i in
-    loop_laid c.args.wires.now c.args.out.now l.out l.i (omega (arith, l.invariant.0, c.loop-i-test.false)) (omega (arith, c.requires)) l.invariant.2
+    loop_laid c.args.wires.now c.args.out.now l.out l.i (omega arith) (omega (arith, c.requires)) l.invariant

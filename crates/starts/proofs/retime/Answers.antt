@@ -1,27 +1,14 @@
 -- `starts::retime` meets its contract: the settled totals are the latest row, and their starts its own. Assumes nothing.
-use borrow.Author.Tests.{not-true, not-false}
-use Rattle.rounds.specs.Rounds.{bytes_net}
+use Rattle.rounds.specs.NetOf.{net_of}
 use Rattle.rounds.proofs.RowLaws.{closed}
-use Rattle.starts.proofs.ShiftLaws.{unsettled_timed, starts_fit, settled_timed}
+use Rattle.starts.proofs.ShiftLaws.{starts_fit, some_timed}
 use Rattle.starts.proofs.retime.Goals as goal
 
-pub returns-then-not-rows : goal.returns-then-not-rows
-returns-then-not-rows c =
-    let s = c.args in
-    let r = c.settle-rows in
-    unsettled_timed (bytes_net s.b.now s.at s.nodes s.wires s.bounds) r.result r.ensures (not-true _ c.if-not-rows.true) c.no_totals.result
-
-pub starts-shifted-requires : goal.starts-shifted-requires
-starts-shifted-requires c =
-    let s = c.args in
-    let r = c.settle-rows in record {
-      nodes_le_most_nodes = c.requires.wired.few_nodes;
-      by_index = starts_fit (bytes_net s.b.now s.at s.nodes s.wires s.bounds) r.result r.ensures (not-false _ c.if-not-rows.false)
-          (closed s.bounds c.requires.wired) c.requires.moderate c.requires.wired.few_nodes;
-    }
+pub starts-requires-clause-by_index : goal.starts-requires-clause-by_index
+starts-requires-clause-by_index c =
+    let n = c.args.net.now in
+    starts_fit (net_of n) c.in_ok-settled.settled c.in_ok-settled.ensures (closed n.bounds n.wired) n.moderate n.wired.few_nodes
 
 pub returns : goal.returns
 returns c =
-    let s = c.args in
-    let r = c.settle-rows in
-    settled_timed (bytes_net s.b.now s.at s.nodes s.wires s.bounds) r.result r.ensures (not-false _ c.if-not-rows.false) c.starts-shifted.result c.starts-shifted.ensures
+    some_timed (net_of c.args.net.now) c.in_ok-settled.settled c.in_ok-settled.ensures c.starts.result c.starts.ensures

@@ -1,6 +1,5 @@
 -- `text::refused_text` meets its contract: 7 where the text that was measured has no room, else it is written. Assumes nothing.
-use mathlib.Core.Path.{refl}
-use native.Mathlib.Omega.{arith}
+use Rattle.std.proofs.Common.{refl, arith}
 use Rattle.text.proofs.TextingLaws.{texting_short, texting_done}
 use Rattle.text.proofs.refused_text.Goals as goal
 

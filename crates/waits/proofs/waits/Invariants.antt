@@ -1,5 +1,5 @@
 -- `waits::waits` meets its contract: what its loop keeps.
-use Prim.Native.Nat.{ℕ, ◌-◌, ◌<◌, ◌≤◌}
+use Prim.Native.Nat.{ℕ, ◌<◌}
 use mathlib.Core.Path.{◌≡◌}
 use lib.ListN.{length}
 use lib.IntN.{pos}
@@ -13,9 +13,6 @@ use Rattle.waits.proofs.waits.Given as goal
 
 abbrev pub invariant-loop-e : goal.invariant-loop-e
 invariant-loop-e l =
-    let taps = tap (sheet_of l.b) (start (net (sheet_of l.b))) in
-    (l.e ≤ l.sheet.wires) × (length l.waited.waits ≡ 96) × ((k : ℕ) → k < l.e → cycles_at l.waited.waits k ≡ pos (taps k))
-    × (length l.waited.longest ≡ 48) × SoFar l.e (from_node l.b) taps 48 l.waited.longest × (length l.waited.lines ≡ 8) × SoFar l.e (from_unit l.b) taps 8 l.waited.lines
-
-abbrev pub decreases-loop-e : goal.decreases-loop-e
-decreases-loop-e l = l.sheet.wires - l.e
+    let taps = tap (sheet_of l.sheet.b.now) (start (net (sheet_of l.sheet.b.now))) in
+    (length l.waited.waits ≡ 96) × ((k : ℕ) → k < l.e → cycles_at l.waited.waits k ≡ pos (taps k))
+    × (length l.waited.longest ≡ 48) × SoFar l.e (from_node l.sheet.b.now) taps 48 l.waited.longest × (length l.waited.lines ≡ 8) × SoFar l.e (from_unit l.sheet.b.now) taps 8 l.waited.lines

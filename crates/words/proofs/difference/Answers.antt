@@ -5,6 +5,4 @@ use Rattle.words.proofs.WordLaws.{difference_is}
 use Rattle.words.proofs.difference.Goals as goal
 
 pub returns : goal.returns
-returns c =
-    let a = c.args in
-    difference_is a.a a.b c.wrapping_sub_u32.result (omega arith) (omega arith) c.wrapping_sub_u32.ensures.value
+returns c = difference_is c.args.a c.args.b _ (omega arith) (omega arith) (omega arith)

@@ -24,26 +24,6 @@ divided c = sfits_le (mag_quot (negsuc 0 -ℤ c.args.d) c.args.n) (mirrored c)
 floored : (c : Start) → SFits w32 (floor c.args.d c.args.n)
 floored c = floor_fits c.args.d c.args.n c.ranges.d
 
-pub overflow_sub-result : goal.overflow_sub-result
-overflow_sub-result c = simp (read c.before.before) (mirrored c.before.before)
-
-pub nonzero_div-result : goal.nonzero_div-result
-nonzero_div-result c =
-    let s = c.before.before in
-    (search rules, simp (read s, whole c.before, to_z-of_z w32 (negsuc 0 -ℤ s.args.d) (mirrored s)) (divided s))
-
-pub overflow_sub-result-then-below : goal.overflow_sub-result-then-below
-overflow_sub-result-then-below c =
-    let s = c.before.before in
-    let q = quot_z (negsuc 0 -ℤ s.args.d) (pos s.args.n) in
-    simp (read s, whole c.before, to_z-of_z w32 (negsuc 0 -ℤ s.args.d) (mirrored s), to_z-of_z w32 q (divided s))
-    (sfits_le (mag_mirror q) (divided s))
-
-pub nonzero_div-result-else-below : goal.nonzero_div-result-else-below
-nonzero_div-result-else-below c =
-    let s = c.before.before in
-    (search rules, simp (read s, whole c.before) (sfits_le (mag_quot s.args.d s.args.n) s.ranges.d))
-
 pub returns-then-below : goal.returns-then-below
 unfolding up down
 returns-then-below c =

@@ -32,9 +32,6 @@ factors c =
       to_z-of_z w64 (signed half_turn s.args.a) (signed_fits half_turn s.args.a (omega arith) tt),
     )
 
-pub overflow_cast-product : goal.overflow_cast-product
-overflow_cast-product c = simp (gain c.before) (wide c.before)
-
 pub overflow_mul-product : goal.overflow_mul-product
 overflow_mul-product c = rw (factors c) (product c.before)
 

@@ -1,23 +1,15 @@
--- `words::to_bytes16` meets its contract: the low half of the word of k is k mod 2^16. Assumes nothing.
-use Rattle.std.proofs.Common.{◌≡◌, ℕ, ◌%◌, ℤ, ap, ◌∙◌, w16, w64, SFits, to_z, of_z}
-use mir.Facts.{sfits_widen}
+-- `words::to_bytes16` meets its contract: the bits of a number that 16 bits hold are its residue. Assumes nothing.
+use Rattle.std.proofs.Common.{◌≡◌, ◌∙◌, ◌<◌, ℤ, pos, negsuc, ap, arith, w16, of_z}
+use lib.Signed.{mag}
 use mir.ValLaws.{to_z-of_z}
-use Rattle.words.specs.Words.{turn, residue}
-use Rattle.words.proofs.WordLaws.{residue_half}
+use Rattle.words.specs.Words.{residue}
 use Rattle.words.proofs.to_bytes16.Goals as goal
-use Rattle.words.proofs.to_bytes16.Goals.{Start}
 
-read : (c : Start) → to_z w16 (of_z w16 c.args.k) ≡ c.args.k
-read c = to_z-of_z w16 c.args.k c.ranges.k
-
-wide : (c : Start) → SFits w64 c.args.k
-wide c = sfits_widen tt c.ranges.k
-
-pub overflow_cast-k : goal.overflow_cast-k
-overflow_cast-k c = rw (read c) (wide c)
+bits : (k : ℤ) → mag k < 32768 → of_z w16 k ≡ residue k 65536
+unfolding residue
+bits (pos n) h = omega arith
+bits (negsuc n) h = omega arith
 
 pub returns : goal.returns
 returns c =
-    let k = c.args.k in
-    let same : to_z w64 (of_z w64 (to_z w16 (of_z w16 k))) ≡ k = simp (read c.before, to_z-of_z w64 k (wide c.before)) in
-    ap (λ (n : ℕ). n % 65536) (c.to_word.ensures ∙ ap (λ (z : ℤ). residue z turn) same) ∙ residue_half k
+    c.cast_unsigned.ensures ∙ ap (of_z w16) (to_z-of_z w16 c.args.k c.ranges.k) ∙ bits c.args.k c.ranges.k.sfits

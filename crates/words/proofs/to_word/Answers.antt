@@ -1,56 +1,19 @@
--- `words::to_word` meets its contract: the remainder has the sign of z, and one turn more makes it the residue where it is
--- below 0. Assumes nothing.
-use Rattle.std.proofs.Common.{◌≡◌, true, false, ℤ, pos, lt_trans, lit<, w32, w64, Fits, SFits, to_z, of_z}
-use lib.Signed.{lt_z, rem_z, mag_rem}
-use mir.ValLaws.{to_z-of_z, sfits_le}
+-- `words::to_word` meets its contract: the remainder that is never below 0 is the residue. Assumes nothing.
+use Rattle.std.proofs.Common.{◌≡◌, ◌∙◌, ℤ, pos, negsuc, nat_abs, ap, arith, refl, w64, SFits}
+use mir.ValLaws.{to_z-of_z}
+use Rattle.std.specs.Int.{int_rem_euclid}
 use Rattle.words.specs.Words.{turn, residue}
-use Rattle.words.proofs.FloorLaws.{mag_quot}
-use Rattle.words.proofs.WordLaws.{residue_below, rem_up, rem_same}
 use Rattle.words.proofs.to_word.Goals as goal
-use Rattle.words.proofs.to_word.Goals.{Else-rest-lt0, Start, Then-rest-lt0}
 
-read : (c : Start) → to_z w64 (of_z w64 c.args.z) ≡ c.args.z
-read c = to_z-of_z w64 c.args.z c.ranges.z
+remains : (z : ℤ) → int_rem_euclid z (pos turn) ≡ pos (residue z turn)
+unfolding residue
+remains (pos n) = refl
+remains (negsuc n) = ap pos (omega arith)
 
-rest : (c : Start) → to_z w64 (of_z w64 (rem_z c.args.z (pos turn))) ≡ rem_z c.args.z (pos turn)
-rest c = to_z-of_z w64 (rem_z c.args.z (pos turn)) (sfits_le (mag_rem c.args.z (pos turn)) c.ranges.z)
-
-is_word : (z : ℤ) → Fits w32 (residue z turn)
-is_word z = record { fits = residue_below z turn (lit< tt) }
-
-word_fits : (z : ℤ) → SFits w64 (pos (residue z turn))
-word_fits z = record { sfits = lt_trans (is_word z).fits (lit< tt) }
-
-below : (c : Then-rest-lt0) → lt_z (rem_z c.args.z (pos turn)) (pos 0) ≡ true
-below c = simp (read c.before, rest c.before) at c.if-rest-lt0.true
-
-above : (c : Else-rest-lt0) → lt_z (rem_z c.args.z (pos turn)) (pos 0) ≡ false
-above c = simp (read c.before, rest c.before) at c.if-rest-lt0.false
-
-pub nonzero_rem-rest : goal.nonzero_rem-rest
-nonzero_rem-rest c = (lit< tt, simp (read c) (sfits_le (mag_quot c.args.z turn) c.ranges.z))
-
-pub overflow_add-result : goal.overflow_add-result
-overflow_add-result c =
+pub returns : goal.returns
+returns c =
     let z = c.args.z in
-    simp (read c.before, rest c.before, rem_up z (below c)) (word_fits z)
-
-pub overflow_cast-result : goal.overflow_cast-result
-overflow_cast-result c =
-    let z = c.args.z in
-    simp (read c.before, rest c.before, rem_up z (below c), to_z-of_z w64 (pos (residue z turn)) (word_fits z)) (tt, is_word z)
-
-pub overflow_cast-result-else-rest-lt0 : goal.overflow_cast-result-else-rest-lt0
-overflow_cast-result-else-rest-lt0 c =
-    let z = c.args.z in
-    simp (read c.before, rem_same z (above c), to_z-of_z w64 (pos (residue z turn)) (word_fits z)) (tt, is_word z)
-
-pub returns-then-rest-lt0 : goal.returns-then-rest-lt0
-returns-then-rest-lt0 c =
-    let z = c.args.z in
-    simp (read c.before, rest c.before, rem_up z (below c), to_z-of_z w64 (pos (residue z turn)) (word_fits z))
-
-pub returns-else-rest-lt0 : goal.returns-else-rest-lt0
-returns-else-rest-lt0 c =
-    let z = c.args.z in
-    simp (read c.before, rem_same z (above c), to_z-of_z w64 (pos (residue z turn)) (word_fits z))
+    let r = c.rem_euclid.result in
+    let f : SFits w64 r = record { sfits = c.rem_euclid.type_inv } in
+    let e : r ≡ pos (residue z turn) = c.rem_euclid.ensures.value ∙ ap (λ (y : ℤ). int_rem_euclid y (pos turn)) (to_z-of_z w64 z c.ranges.z) ∙ remains z in
+    ap nat_abs (to_z-of_z w64 r f ∙ e)

@@ -20,6 +20,6 @@ idle_at-requires c = omega (arith, c.unit_place-at.ensures, unit_inside _ _ c.re
 
 pub returns : goal.returns
 returns c =
-    ap₂ (λ (x : Bool) (k : ℕ). x && eqb c.idle_at.result (c.args.p.fold - k)) c.same.ensures c.occupied.ensures
+    ap₂ (λ (x : Bool) (k : ℕ). x && eqb c.idle_at.result (c.args.p.fold - k)) c.eq.ensures c.occupied.ensures
     ∙ figures_so _ _ c.requires.whole c.args.q c.requires.q_lt_units c.args.tap.0 c.line_at.result.0 c.args.mask c.idle_at.result c.unit_place-at.result
     c.unit_place-at.ensures c.requires.unit_figures c.line_at.ensures c.idle_at.ensures

@@ -1,117 +1,82 @@
 -- `judging::switches::join_switches` meets its contract: no switch passed has a fault, the masks hold the inputs that they feed and each
 -- tap counts for the unit that it reads; the first switch with a fault is handed up. Assumes nothing.
-use Prim.Native.Nat.{ℕ, ◌<◌}
-use mathlib.Core.Path.{◌≡◌, refl, sym, ap, ◌∙◌, subst, subst⁻¹}
-use native.Mathlib.Omega.{arith}
-use lib.ListN.{length, length-set}
-use borrow.Author.Rules.{rules}
+use Rattle.std.proofs.Common.{◌≡◌, ℕ, refl, sym, ap, ◌∙◌, subst, arith, rules, length-set, get_or, Result, Ok, Err}
+use mathlib.Core.Path.{subst⁻¹}
+use Rattle.times.specs.declared.Cycles.{Cycles}
+use Rattle.times.proofs.OrderLaws.{larger_is}
 use Rattle.words.specs.Loops.{first}
-use Rattle.words.proofs.FaultLaws.{first_more}
+use Rattle.words.proofs.FaultLaws.{first_more, first_hit}
 use Rattle.records.specs.Records.{wires_in}
-use Rattle.records.specs.Answers.{judged}
-use Rattle.records.proofs.AnswerLaws.{run_refused, passed_none, reason_positive}
+use Rattle.records.proofs.AnswerLaws.{refused_some, refused_last}
 use Rattle.slots.specs.Feeding.{InputMasked}
-use Rattle.slots.proofs.TableLaws.{empty_at}
-use Rattle.slots.proofs.FeedingLaws.{feeding_none, feeding_next, feeding_fed}
+use Rattle.slots.proofs.FeedingLaws.{feeding_none, feeding_more, feeding_fed}
 use Rattle.plans.specs.Plan.{plan_read}
 use Rattle.plans.proofs.ReadLaws.{switches_read}
 use Rattle.plans.proofs.WholeLaws.{wires_so}
-use Rattle.judging.specs.Answers.{switch_fault, switch_number, TapsOf}
+use Rattle.judging.specs.Answers.{no_cycles, switch_fault, TapsOf, Joins}
 use Rattle.judging.proofs.PartLaws.{held}
-use Rattle.judging.proofs.SwitchLaws.{input_masked, switch_told, GotSwitch, switch_got}
+use Rattle.judging.proofs.SwitchLaws.{input_masked, GotSwitch, switch_got}
 use Rattle.judging.proofs.FigureLaws.{taps_none, taps_more}
 use Rattle.judging.proofs.switches.join_switches.Goals as goal
-use Rattle.judging.proofs.switches.join_switches.Goals.{After-input_of-to, After-inputs_of-inputs, After-mask-m, In-Got}
+use Rattle.judging.proofs.switches.join_switches.Goals.{In-Ok}
+
+err_same : {A B : Type 0} {x y : B} → ◌≡◌ {A = Result A B} (Err x) (Err y) → x ≡ y
+err_same e = cc
+
+ok_same : {A B : Type 0} {x y : A} → ◌≡◌ {A = Result A B} (Ok x) (Ok y) → x ≡ y
+ok_same e = cc
 
 pub loop-e-init : goal.loop-e-init
 unfolding first
-loop-e-init c = (omega arith, refl, feeding_none _ _ refl (empty_at 16), refl, taps_none (plan_read c.args.b.now) c.zero-taps.result c.zero-taps.ensures)
-
--- a number for each of eight units
-eight : (c : After-inputs_of-inputs) → length c.inputs_of-inputs.result ≡ 8
-eight c = search rules
-
-pub read_switch-got-requires : goal.read_switch-got-requires
-read_switch-got-requires c =
-    record { fronted = c.requires.fronted; occupied = c.requires.occupied; inputs_of = c.inputs_of-inputs.ensures; inputs_len = eight (goal.at.read_switch-got-requires c).After-inputs_of-inputs; e_lt_wires = c.loop-e-test.true }
+loop-e-init c = (refl, rw c.none.ensures (feeding_none _), refl, taps_none (plan_read c.args.b.now) _ refl)
 
 pub returns-in_default : goal.returns-in_default
 returns-in_default c =
     let b = c.args.b.now in
-    let told = switch_told b c.loop-e.e c.read_switch-got.result c.read_switch-got.ensures in
-    let is = c.switch_judged-judged.ensures ∙ ap judged told in
-    let fault = sym told ∙ ap switch_number c.in_default.is in
+    let here = sym c.read_switch-got.ensures ∙ c.unwrap_err.ensures in
+    let hit = first_hit (wires_in b) c.loop-e.e (switch_fault b) (omega (arith, wires_so _ _ c.requires.fronted.whole, switches_read b)) c.loop-e.invariant.0 (refused_some _ _ _ here) in
     record {
-      judged_is = is ∙ run_refused (wires_in b) c.loop-e.e _ c.in_default.field-0 (omega (arith, c.loop-e-test.true, wires_so _ _ c.requires.fronted.whole, switches_read b)) c.loop-e.invariant.1 fault;
-      joins = λ passed. absurd (omega (arith, passed_none (switch_fault b c.loop-e.e) (sym is ∙ passed), fault, reason_positive c.in_default.field-0));
+      refused = λ why e. rw hit (refused_last _ tt (switch_fault b c.loop-e.e) _ here ∙ ap Err (err_same e));
+      joins = λ j e. search rules;
     }
 
 -- the switch that the reader got
-got : (c : In-Got) → GotSwitch c.args.b.now c.loop-e.e c.in-Got.j
+got : (c : In-Ok) → GotSwitch c.args.b.now c.loop-e.e c.in-Ok.joint
 got c =
-    switch_got c.args.b.now c.args.p c.requires.fronted c.loop-e.e c.loop-e-test.true c.in-Got.j (sym c.read_switch-got.ensures ∙ c.in-Got.is)
+    switch_got c.args.b.now c.args.p c.requires.fronted c.loop-e.e (omega arith) c.in-Ok.joint (sym c.read_switch-got.ensures ∙ c.in-Ok.is)
 
 -- the input that it feeds has room in the masks
-room : (c : After-input_of-to) → GotSwitch c.args.b.now c.loop-e.e c.in-Got.j → InputMasked c.input_of-to.result
-room c g = subst⁻¹ InputMasked (c.input_of-to.ensures ∙ g.input_is) g.masked
+pub feed-requires : goal.feed-requires
+feed-requires c = let g = got (goal.at.feed-requires c).In-Ok in subst⁻¹ InputMasked (c.input_of.ensures ∙ g.input_is) g.masked
 
-mask_below : (c : After-mask-m) → InputMasked c.input_of-to.result → c.mask-m.result < 16
-mask_below c r = omega (arith, c.mask-m.ensures, r.on_unit, r.one_of)
+pub bounds-joined-q : goal.bounds-joined-q
+bounds-joined-q c = let g = got (goal.at.bounds-joined-q c).In-Ok in omega (arith, g.few)
 
-pub mask-m-requires : goal.mask-m-requires
-mask-m-requires c =
-    record { unit_lt_most_units = (room c (got (goal.at.mask-m-requires c).In-Got)).on_unit; input_lt_most_inputs = (room c (got (goal.at.mask-m-requires c).In-Got)).one_of }
-
-pub bounds-fed-m : goal.bounds-fed-m
-bounds-fed-m c = mask_below c (room (goal.at.bounds-fed-m c).After-input_of-to (got (goal.at.bounds-fed-m c).In-Got))
-
-pub has_slot-twice-requires : goal.has_slot-twice-requires
-has_slot-twice-requires c = (room (goal.at.has_slot-twice-requires c).After-input_of-to (got (goal.at.has_slot-twice-requires c).In-Got)).in_turn
-
-pub bounds-fed-m-in-loop-e : goal.bounds-fed-m-in-loop-e
-bounds-fed-m-in-loop-e c = mask_below (goal.at.bounds-fed-m-in-loop-e c).After-mask-m (room (goal.at.bounds-fed-m-in-loop-e c).After-input_of-to (got (goal.at.bounds-fed-m-in-loop-e c).In-Got))
-
-pub with_slot-requires : goal.with_slot-requires
-with_slot-requires c = (room (goal.at.with_slot-requires c).After-input_of-to (got (goal.at.with_slot-requires c).In-Got)).in_turn
-
-pub bounds-fed-m-in-loop-e-2 : goal.bounds-fed-m-in-loop-e-2
-bounds-fed-m-in-loop-e-2 c = mask_below (goal.at.bounds-fed-m-in-loop-e-2 c).After-mask-m (room (goal.at.bounds-fed-m-in-loop-e-2 c).After-input_of-to (got (goal.at.bounds-fed-m-in-loop-e-2 c).In-Got))
-
-pub bounds-taps-q : goal.bounds-taps-q
-bounds-taps-q c = (got (goal.at.bounds-taps-q c).In-Got).few
-
-pub tap_of-requires : goal.tap_of-requires
-tap_of-requires c =
-    record { whole = c.requires.fronted.whole; e_lt_wires = c.loop-e-test.true }
-
-pub bounds-taps-q-in-loop-e : goal.bounds-taps-q-in-loop-e
-bounds-taps-q-in-loop-e c = (got (goal.at.bounds-taps-q-in-loop-e c).In-Got).few
-
-pub overflow_add-e : goal.overflow_add-e
-overflow_add-e c = omega (arith, c.loop-e-test.true, c.struct_known-1.given)
+pub bounds-joined-q-in-loop-e : goal.bounds-joined-q-in-loop-e
+bounds-joined-q-in-loop-e c = let g = got (goal.at.bounds-joined-q-in-loop-e c).In-Ok in omega (arith, g.few)
 
 pub loop-e-preserved : goal.loop-e-preserved
 loop-e-preserved c =
-    let g = got (goal.at.loop-e-preserved c).In-Got in (
-      omega (arith, c.loop-e-test.true),
-      first_more _ _ c.loop-e.invariant.1 g.faultless,
-      feeding_next _ _ _ _ c.loop-e.invariant.2 g.masked c.input_of-to.result (c.input_of-to.ensures ∙ g.input_is) _ c.mask-m.ensures _ c.has_slot-twice.ensures _ c.with_slot.ensures,
-      simp length-set c.loop-e.invariant.3,
-      taps_more (plan_read c.args.b.now) c.loop-e.e c.loop-e.taps c.loop-e.invariant.4 c.loop-e.invariant.3 c.in-Got.j.source g.source_is g.few c.tap_of.result c.larger.result
-          c.tap_of.ensures c.larger.ensures,
+    let g = got (goal.at.loop-e-preserved c).In-Ok in (
+      first_more _ _ c.loop-e.invariant.0 g.faultless,
+      rw (c.feed.ensures, c.input_of.ensures ∙ g.input_is) (feeding_more _ c.loop-e.e c.loop-e.joined.fed c.loop-e.invariant.1 g.masked),
+      simp length-set c.loop-e.invariant.2,
+      taps_more (plan_read c.args.b.now) c.loop-e.e c.loop-e.joined.taps c.loop-e.invariant.3 c.loop-e.invariant.2 _ g.source_is (omega (arith, g.few)) c.tap_of.result c.max.result
+          c.tap_of.ensures (ap (λ (x : Cycles). x.0) c.max.ensures ∙ larger_is (get_or c.loop-e.joined.taps c.in-Ok.joint.source no_cycles) c.tap_of.result),
     )
 
 pub returns : goal.returns
 returns c =
     let b = c.args.b.now in
-    let all : c.loop-e.e ≡ c.args.p.wires = omega (arith, c.loop-e.invariant.0, c.loop-e-test.false) in
+    let all : c.loop-e.e ≡ c.args.p.wires = omega arith in
     let end : c.loop-e.e ≡ wires_in b = omega (arith, wires_so _ _ c.requires.fronted.whole, switches_read b) in
-    let none = rw end at c.loop-e.invariant.1 in
+    let none = rw end at c.loop-e.invariant.0 in
     let h = held b c.args.p c.requires.fronted none in
+    let joins : Joins (plan_read b) c.args.p.wires c.loop-e.joined = record {
+      fed_so = feeding_fed _ _ _ (λ i k. input_masked b c.args.p h i (omega (arith, wires_so _ _ c.requires.fronted.whole))) (rw all at c.loop-e.invariant.1);
+      taps_so = subst (λ (n : ℕ). TapsOf (plan_read b) n c.loop-e.joined.taps) all c.loop-e.invariant.3;
+    } in
     record {
-      judged_is = ap judged (sym none);
-      joins = λ passed. record {
-        fed_so = feeding_fed _ _ _ _ (λ i k. input_masked b c.args.p h i (omega (arith, wires_so _ _ c.requires.fronted.whole))) (rw all at c.loop-e.invariant.2);
-        taps_so = subst (λ (n : ℕ). TapsOf (plan_read b) n c.loop-e.taps) all c.loop-e.invariant.4;
-      };
+      refused = λ why e. search rules;
+      joins = λ j e. (none, subst (Joins (plan_read b) c.args.p.wires) (ok_same e) joins);
     }

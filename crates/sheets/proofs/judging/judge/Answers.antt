@@ -1,36 +1,45 @@
 -- `sheets::judging::judge` meets its contract: the first part with a fault decides, in 01's order. Assumes nothing.
-use mathlib.Core.Path.{◌≡◌, sym, ◌∙◌}
-use Rattle.records.proofs.AnswerLaws.{passed_none}
-use Rattle.sheets.specs.Answers.{head_fault, records_fault, HeaderSaid}
+use Rattle.std.proofs.Common.{◌≡◌, Ok, Err, sym, ap, ◌∙◌, rules}
+use Rattle.records.proofs.AnswerLaws.{got_none}
+use Rattle.sheets.specs.Sheet.{sheet_of}
+use Rattle.sheets.specs.Answers.{head_fault, records_fault, nodes_fault, HeaderSaid}
 use Rattle.sheets.proofs.PartLaws.{head_refused, head_got, records_refused, nodes_refused, all_passed, held}
 use Rattle.sheets.proofs.judging.judge.Goals as goal
-use Rattle.sheets.proofs.judging.judge.Goals.{In-Got, In_default-records}
+use Rattle.sheets.proofs.judging.judge.Goals.{In_ok-sheet, In_ok-judge_records}
 
-pub returns-in_default : goal.returns-in_default
-returns-in_default c = c.in_default.is ∙ head_refused _ c.in_default.field-0 (sym c.read_header-head.ensures ∙ c.in_default.is)
+pub returns-in_err-sheet : goal.returns-in_err-sheet
+returns-in_err-sheet c =
+    let why : c.from_residual.result ≡ Err c.in_err-sheet.field-0.0 = search rules in
+    why ∙ sym (head_refused c.args.b.now _ (sym c.read_header.ensures ∙ c.in_err-sheet.was))
 
-said : (c : In-Got) →
-    let b = c.args.b.now in
-    (head_fault b ≡ 0) × HeaderSaid b c.in-Got.sheet
-said c = head_got _ c.in-Got.sheet (sym c.read_header-head.ensures ∙ c.in-Got.is)
+said : (c : In_ok-sheet) → (head_fault c.args.b.now ≡ 0) × HeaderSaid c.args.b.now c.in_ok-sheet.sheet
+said c = head_got _ c.in_ok-sheet.sheet (sym c.read_header.ensures ∙ c.in_ok-sheet.was)
 
-pub judge_records-records-requires : goal.judge_records-records-requires
-judge_records-records-requires c = (said c).1
+pub judge_records-requires : goal.judge_records-requires
+judge_records-requires c = (said c).1
 
-pub returns-in-Refused : goal.returns-in-Refused
-returns-in-Refused c =
-    records_refused _ (said (goal.at.returns-in-Refused c).In-Got).0 _ (sym c.judge_records-records.ensures ∙ c.in-Refused.is)
+pub returns-in_err-judge_records : goal.returns-in_err-judge_records
+returns-in_err-judge_records c =
+    let h = said (goal.at.returns-in_err-judge_records c).In_ok-sheet in
+    let why : c.from_residual-in_err-judge_records.result ≡ Err c.in_err-judge_records.field-0.0 = search rules in
+    why ∙ sym (records_refused c.args.b.now h.0 _ (sym c.judge_records.ensures ∙ c.in_err-judge_records.was))
 
-clear : (c : In_default-records) → records_fault c.args.b.now ≡ 0
-clear c = passed_none _ (sym c.judge_records-records.ensures ∙ c.in_default-records.is)
+clear : (c : In_ok-judge_records) → records_fault c.args.b.now ≡ 0
+clear c = (got_none tt _ (records_fault c.args.b.now) (sym c.judge_records.ensures ∙ c.in_ok-judge_records.was)).0
 
-pub judge_nodes-nodes-requires : goal.judge_nodes-nodes-requires
-judge_nodes-nodes-requires c = held _ _ (said (goal.at.judge_nodes-nodes-requires c).In-Got).1 (clear c)
+pub judge_nodes-requires : goal.judge_nodes-requires
+judge_nodes-requires c = held _ _ (said (goal.at.judge_nodes-requires c).In_ok-sheet).1 (clear c)
 
-pub returns-in-Refused-nodes : goal.returns-in-Refused-nodes
-returns-in-Refused-nodes c = nodes_refused _ (said (goal.at.returns-in-Refused-nodes c).In-Got).0 (clear (goal.at.returns-in-Refused-nodes c).In_default-records) _ (sym c.judge_nodes-nodes.ensures ∙ c.in-Refused-nodes.is)
+pub returns-in_err-judge_nodes : goal.returns-in_err-judge_nodes
+returns-in_err-judge_nodes c =
+    let at = goal.at.returns-in_err-judge_nodes c in
+    let h = said at.In_ok-sheet in
+    let why : c.from_residual-in_err-judge_nodes.result ≡ Err c.in_err-judge_nodes.field-0.0 = search rules in
+    why ∙ sym (nodes_refused c.args.b.now h.0 (clear at.In_ok-judge_records) _ (sym c.judge_nodes.ensures ∙ c.in_err-judge_nodes.was))
 
 pub returns : goal.returns
 returns c =
-    let h = said (goal.at.returns c).In-Got in
-    all_passed _ h.0 (clear (goal.at.returns c).In_default-records) _ h.1.said (passed_none _ (sym c.judge_nodes-nodes.ensures ∙ c.in_default-nodes.is))
+    let b = c.args.b.now in
+    let h = said (goal.at.returns c).In_ok-sheet in
+    let none = got_none tt _ (nodes_fault (sheet_of b)) (sym c.judge_nodes.ensures ∙ c.in_ok-judge_nodes.was) in
+    ap Ok h.1.said ∙ sym (all_passed b h.0 (clear (goal.at.returns c).In_ok-judge_records) none.0)

@@ -1,38 +1,27 @@
 -- `sheets::judging::judge_records` meets its contract: the first part with a fault decides. Assumes nothing.
-use mathlib.Core.Path.{◌≡◌, sym, ap, ◌∙◌}
-use Rattle.records.specs.declared.reading.Judged.TheVariants as J
+use Rattle.std.proofs.Common.{◌≡◌, Err, sym, ap, ◌∙◌, rules}
 use Rattle.records.specs.Answers.{judged, front_fault}
-use Rattle.records.proofs.AnswerLaws.{passed_none, refused_first}
+use Rattle.records.proofs.AnswerLaws.{got_none, refused_first}
 use Rattle.sheets.specs.Sheet.{sheet_format}
 use Rattle.sheets.specs.Answers.{wires_fault}
-use Rattle.sheets.proofs.PartLaws.{whole_below, sheet_inside, sheet_front, sheet_whole}
+use Rattle.sheets.proofs.PartLaws.{sheet_front}
 use Rattle.sheets.proofs.judging.judge_records.Goals as goal
-use Rattle.sheets.proofs.judging.judge_records.Goals.{After-judge_parts-judged, In-Passed}
+use Rattle.sheets.proofs.judging.judge_records.Goals.{After-judge_parts}
 
-pub place-requires : goal.place-requires
-place-requires c = whole_below _ _ c.requires c.wire_run-wires.result c.wire_run-wires.ensures
-
-pub judge_parts-judged-requires : goal.judge_parts-judged-requires
-judge_parts-judged-requires c =
-    let runs = sheet_inside _ _ c.requires _ _ _ _ c.wire_run-wires.ensures c.place.ensures c.unit_run.ensures c.node_run.ensures in
-    record { inside = runs.0; inside_2 = runs.1 }
-
-told : (c : After-judge_parts-judged) → c.judge_parts-judged.result ≡ judged (front_fault sheet_format c.args.b.now)
+told : (c : After-judge_parts) → c.judge_parts.result ≡ judged (front_fault sheet_format c.args.b.now)
 told c =
-    c.judge_parts-judged.ensures
-    ∙ ap judged (sheet_front _ _ c.requires _ _ _ _ c.wire_run-wires.ensures c.place.ensures c.unit_run.ensures c.node_run.ensures)
+    c.judge_parts.ensures
+    ∙ ap judged (sheet_front _ _ c.requires _ _ _ _ c.end-whole.ensures c.unit_run.ensures c.node_run.ensures c.wire_run.ensures)
 
-pub returns-in_default : goal.returns-in_default
-returns-in_default c =
+pub returns-in_err-judge_parts : goal.returns-in_err-judge_parts
+returns-in_err-judge_parts c =
     let b = c.args.b.now in
-    c.in_default.is ∙ sym (refused_first J.Passed J.Refused (front_fault sheet_format b) (wires_fault b) c.in_default.field-0 (sym (told (goal.at.returns-in_default c).After-judge_parts-judged) ∙ c.in_default.is))
-
--- the units and nodes have no fault
-clear : (c : In-Passed) → c.judge_parts-judged.result ≡ judged (front_fault sheet_format c.args.b.now) → front_fault sheet_format c.args.b.now ≡ 0
-clear c t = passed_none _ (sym t ∙ c.in-Passed.is)
-
-pub judge_wires-requires : goal.judge_wires-requires
-judge_wires-requires c = sheet_whole _ _ c.requires (clear c (told (goal.at.judge_wires-requires c).After-judge_parts-judged))
+    let t = told (goal.at.returns-in_err-judge_parts c).After-judge_parts in
+    let why : c.from_residual.result ≡ Err c.in_err-judge_parts.field-0.0 = search rules in
+    why ∙ sym (refused_first tt tt (front_fault sheet_format b) (wires_fault b) _ (sym t ∙ c.in_err-judge_parts.was))
 
 pub returns : goal.returns
-returns c = rw (clear (goal.at.returns c).In-Passed (told (goal.at.returns c).After-judge_parts-judged)) c.judge_wires.ensures
+returns c =
+    let b = c.args.b.now in
+    let t = told (goal.at.returns c).After-judge_parts in
+    rw (got_none tt _ (front_fault sheet_format b) (sym t ∙ c.in_ok-judge_parts.was)).0 c.judge_wires.ensures

@@ -1,13 +1,8 @@
 -- `slots::feeding::units_fed` meets its contract: what its loop keeps.
-use mathlib.Core.Path.{◌≡◌}
-use mathlib.Core.Bool.{true}
-use Prim.Native.Nat.{◌≤◌, ◌-◌}
+use Rattle.std.proofs.Common.{◌≡◌, true}
 use Rattle.records.specs.Answers.{units_in_run}
 use Rattle.slots.specs.Feeding.{units_fed}
 use Rattle.slots.proofs.feeding.units_fed.Given as goal
 
 abbrev pub invariant-loop-q : goal.invariant-loop-q
-invariant-loop-q l = (l.q ≤ l.units.count) × (units_fed l.q (units_in_run l.b l.units) l.occupied l.masks ≡ true)
-
-abbrev pub decreases-loop-q : goal.decreases-loop-q
-decreases-loop-q l = l.units.count - l.q
+invariant-loop-q l = units_fed l.q (units_in_run l.b l.units) l.occupied l.masks ≡ true

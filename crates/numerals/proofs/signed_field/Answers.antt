@@ -1,8 +1,0 @@
--- `numerals::signed_field` meets its contract: the name and then the number with its sign. Assumes nothing.
-use Rattle.numerals.specs.Numerals.{signed_named}
-use Rattle.numerals.proofs.WroteLaws.{wrote_then}
-use Rattle.numerals.proofs.signed_field.Goals as goal
-
-pub returns : goal.returns
-unfolding signed_named
-returns c = wrote_then c.word-next.ensures (rw c.two_at.ensures at c.signed.ensures)

@@ -1,9 +1,0 @@
--- `records::Unit::k_least` meets its contract: its test is the definition's. Assumes nothing.
-use borrow.Author.Tests.{eq-eqb, ne_eqb}
-use Rattle.records.proofs.Unit.k_least.Goals as goal
-
-pub returns-then-op-eq-OP_SCALE : goal.returns-then-op-eq-OP_SCALE
-returns-then-op-eq-OP_SCALE c = simp (eq-eqb _ _ c.if-op-eq-OP_SCALE.true)
-
-pub returns-else-op-eq-OP_SCALE : goal.returns-else-op-eq-OP_SCALE
-returns-else-op-eq-OP_SCALE c = simp (ne_eqb _ _ c.if-op-eq-OP_SCALE.false)
