@@ -105,7 +105,7 @@ fn live(rt: &impl Print, s: &mut State) -> io::Result<()> {
     print(rt, b"\n")
 }
 
-// Wire e of a sheet, and switch e of its plan, with what stands behind it.
+// Wire e of a sheet, and switch e of its plan, with what stands behind it: each by its type's constants, which no trait has for both.
 fn wire(sheet: &[u8], e: u8) -> &[u8] {
     let units = Sheet::UNIT * byte(sheet, 3) as usize;
     let nodes = Sheet::NODE * byte(sheet, 4) as usize;

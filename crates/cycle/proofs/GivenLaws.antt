@@ -11,14 +11,14 @@ use borrow.Author.Tests.{eq-eqb, ne_eqb}
 use Rattle.words.proofs.LoopLaws.{and_split}
 use Rattle.records.specs.declared.Node.{Node}
 use Rattle.records.specs.Units.{kind_of, last_op, k_fits}
-use Rattle.records.specs.Records.{at, two}
+use Rattle.records.specs.Records.{at}
 use Rattle.records.specs.Answers.{channel_of}
 use Rattle.plans.specs.declared.Plan as Head
-use Rattle.plans.specs.Plan.{PlanNode, unit_in, node_in, plan_read}
+use Rattle.plans.specs.Plan.{unit_in, node_in, plan_read}
 use Rattle.plans.proofs.ReadLaws.{fold_read, nodes_read}
 use Rattle.memory.specs.Taken.{Taken}
 use Rattle.cycle.specs.Given.{node_in_slot, begun_by, given}
-use Rattle.plans.proofs.WholeLaws.{folds_so, units_so, nodes_so, node_so}
+use Rattle.plans.proofs.WholeLaws.{folds_so, units_so, nodes_so}
 use Rattle.memory.proofs.TakenLaws.{whole_taken, judgement, counts_taken, few_units, node_fine}
 
 module _ (b : List ℕ) (p : Head.Plan) (t : Taken b p) where
@@ -34,11 +34,10 @@ module _ (b : List ℕ) (p : Head.Plan) (t : Taken b p) where
       ((judgement b p t).records.node_ok x (omega (arith, nodes_so b p (whole_taken t), nodes_read b)))).1
 
   -- the iteration is below the node's start
-  pub below_start : (x : ℕ) → x < p.nodes → (cycle o : ℕ) (start : ℤ) (flag : Bool) → o ≡ 9 + 7 * p.units + 9 * x → start ≡ pos (two b (o + 7)) →
+  pub below_start : (x cycle : ℕ) (start : ℤ) (flag : Bool) → start ≡ pos (node_in (plan_read b) x).start →
       flag ≡ ltb (cycle / p.fold) (nat_abs start) → flag ≡ ltb (cycle / (plan_read b).fold) (node_in (plan_read b) x).start
-  below_start x h cycle o start flag eo es is =
-      let here : nat_abs start ≡ (node_in (plan_read b) x).start = ap nat_abs es ∙ ap (λ (o : ℕ). two b (o + 7)) eo ∙ sym (ap (λ (n : PlanNode). n.start) (node_so b p (whole_taken t) x h)) in
-      is ∙ ap (λ (n : ℕ). ltb (cycle / n) (nat_abs start)) (folds_so b p (whole_taken t)) ∙ ap (ltb (cycle / (plan_read b).fold)) here
+  below_start x cycle start flag es is =
+      is ∙ ap (λ (n : ℕ). ltb (cycle / n) (nat_abs start)) (folds_so b p (whole_taken t)) ∙ ap (λ (s : ℤ). ltb (cycle / (plan_read b).fold) (nat_abs s)) es
 
   -- a node's unit is one of eight
   pub unit_few : (x : ℕ) → x < p.nodes → (n : Node) → n ≡ (node_in (plan_read b) x).node → n.unit < 8

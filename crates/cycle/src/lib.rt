@@ -36,7 +36,7 @@ fn begun_by(plan: &FinePlan, x: usize, t: u32, n: Node, sample: u32, a: u32, b: 
     requires { x < plan.now.head.nodes }
     ensures { result ≡ begun_by (t / (plan_read plan.now.b.now).fold) (node_in (plan_read plan.now.b.now) x).start n sample a b }
 {
-    if plans::start_at(plan.b, plan.head.node_place(x)).ahead(t, plan.head.fold) {
+    if plan.whole().start(x).ahead(t, plan.head.fold) {
         WORD_BEFORE
     } else {
         records::value(n.op, n.k, sample, a, b)

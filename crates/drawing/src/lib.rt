@@ -16,7 +16,7 @@ ghost use Rattle.drawing.specs.Laying.{Counted, joint_of, unit_records, node_rec
 use lifetimes::registers;
 use plans::{Joint, Plan};
 use sheets::Sheet;
-use sheets::judging::slots_of;
+use sheets::held::HeldSheet;
 use times::{Cycles, Iterations};
 use waits::Waited;
 use waits::fine::FineSheet;
@@ -120,7 +120,8 @@ pub fn write_plan(
     let plan = plan_head(sheet.head);
     let waited = waits::waits(sheet, starts, made);
     write_header(out, plan, registers(sheet, &waited), rounds);
-    let slots = slots_of(sheet.b, sheet.head);
+    let whole = sheet.whole();
+    let slots = HeldSheet { sheet: whole }.slots();
     // The masks alone go on, by value, so that what is compiled works out no clash.
     write_units(sheet, &waited, slots.occupied, plan.unit_place(0), out);
     write_nodes(sheet, &starts, plan.node_place(0), out);

@@ -11,17 +11,17 @@ use borrow.Author.Tests.{eq-eqb, ne_eqb}
 use lib.ListN.{length, get_or, set}
 use lib.Seq.{get_or-set_same, get_or-set_other}
 use Rattle.records.specs.Units.{kind_of}
-use Rattle.records.specs.Records.{at}
+use Rattle.records.specs.Records.{at, wire_place}
 use Rattle.records.proofs.NodeLaws.{inputs_few}
 use Rattle.plans.specs.declared.Plan as Head
 use Rattle.plans.specs.declared.Joint.{Joint}
 use Rattle.plans.specs.Heads.{joint_at}
-use Rattle.plans.specs.Plan.{Switch, unit_in, node_in, switch_in, plan_read}
+use Rattle.plans.specs.Plan.{Switch, unit_in, node_in, switch_in, plan_format, plan_read}
 use Rattle.plans.proofs.JudgingLaws.{longest_tap_ge}
 use Rattle.memory.specs.Memory.{base, size}
 use Rattle.memory.specs.Taken.{Taken, LinesAt}
 use Rattle.inputs.specs.Inputs.{Begins, last_of, Gathered, input_place, tapped_place}
-use Rattle.plans.proofs.WholeLaws.{units_so, wires_so, switch_so}
+use Rattle.plans.proofs.WholeLaws.{units_so, wires_so, switch_so, switch_said}
 use Rattle.memory.proofs.LineLaws.{depth_so}
 use Rattle.memory.proofs.TakenLaws.{whole_taken, few_units, switch_fine, line_so}
 use Rattle.memory.proofs.BlockLaws.{base_next}
@@ -78,13 +78,13 @@ module _ (b : List ℕ) (p : Head.Plan) (t : Taken b p) where
       ap (λ (q : ℕ). get_or lines q 0) is ∙ so (switch_in (plan_read b) e).source (omega (arith, (source_so e h).1, units_so b p (whole_taken t)))
 
   -- what a switch's joint says, and that its input is one of sixteen
-  pub joint_so : (e : ℕ) → e < p.wires → (j : Joint) → j ≡ joint_at b (9 + 7 * p.units + 9 * p.nodes + 8 * e) →
+  pub joint_so : (e : ℕ) → e < p.wires → (j : Joint) → j ≡ joint_at b (wire_place plan_format b e) →
       (j.slot ≡ (switch_in (plan_read b) e).slot) × (2 * j.unit + j.input ≡ input_place (plan_read b) e) × (input_place (plan_read b) e < 16)
   joint_so e h j is =
       let w = switch_in (plan_read b) e in
       let f = switch_fine b p t e h in
       let few = inputs_few (kind_of (node_in (plan_read b) f.node).node.op) in
-      let so = switch_so b p (whole_taken t) e h in (
+      let so = switch_said b p (whole_taken t) e h in (
         ap (λ (j : Joint). j.slot) is ∙ sym (ap (λ (w : Switch). w.slot) so),
         ap (λ (j : Joint). 2 * j.unit + j.input) is ∙ sym (ap (λ (w : Switch). 2 * w.unit + w.input) so),
         omega (arith, f.on_unit, f.input_fits, few, units_so b p (whole_taken t), few_units b p t),

@@ -1,12 +1,11 @@
 // The words at the inputs of a plan that has been judged: what each switch of a slot reads.
 #![tactic(auto)]
 
-ghost use Rattle.std.specs.Prelude.{◌≡◌, ◌+◌, ◌^◌, ◌<◌, ◌≤◌, length};
+ghost use Rattle.std.specs.Prelude.{◌≡◌, ◌+◌, ◌<◌, ◌≤◌, length};
 ghost use Rattle.plans.specs.Plan.{switch_in, plan_read};
 ghost use Rattle.inputs.specs.Inputs.{Gathered, in_slot, input_place, tapped_place, tapped};
 
 use memory::{FinePlan, Lines};
-use plans::tap_of;
 use records::Unit;
 use records::reading::Header;
 
@@ -28,7 +27,7 @@ fn place_of(lines: &Lines, e: usize) -> usize
 {
     let source = source_of(&lines.plan, e);
     let depth = lines.plan.depth(source);
-    lines.at[source] + tap_of(lines.plan.b, lines.plan.head, e).place(depth)
+    lines.at[source] + lines.plan.whole().tap(e).place(depth)
 }
 
 // The word that switch e reads.
@@ -40,14 +39,16 @@ fn tapped(lines: &Lines, memory: &[u32], e: usize) -> u32
     memory[place_of(lines, e)]
 }
 
-// The words at the inputs of all units in a slot: input i of unit q at 2q + i.
+// The words at the inputs of all units in a slot: input i of unit q at 2q + i. `cycle` gathers a slot's results in a loop of its own: one
+// function over both would ask a closure three times a record whether it is of the slot, where its word goes and what it is.
 pub fn inputs_in(lines: &Lines, memory: &[u32], slot: u8) -> [u32; INPUTS]
     requires { lines.now.words ≤ length memory.now }
     ensures { Gathered lines.now.plan.head.wires (in_slot (plan_read lines.now.plan.b.now) slot) (input_place (plan_read lines.now.plan.b.now)) (tapped (plan_read lines.now.plan.b.now) memory.now) 16 result }
 {
     let mut words = [0; INPUTS];
+    let plan = lines.plan.whole();
     for e in 0..usize::from(lines.plan.head.wires) {
-        let joint = plans::joint_at(lines.plan.b, lines.plan.head.switch_place(e));
+        let joint = plan.joint(e);
         if joint.slot == slot {
             let k = Unit::MOST_INPUTS * joint.unit as usize + joint.input as usize;
             words[k] = tapped(lines, memory, e);

@@ -3,7 +3,7 @@ use mathlib.Core.Path.{◌≡◌, refl, sym, ap, ap₂, ◌∙◌}
 use mathlib.Core.Logic.{inl, inr}
 use mathlib.Core.Bool.{Bool, true, false, cond, ◌&&◌}
 use mathlib.Core.List.{List}
-use Prim.Native.Nat.{ℕ, ◌+◌, ◌*◌, ◌-◌, max, ◌<◌, ◌≤◌}
+use Prim.Native.Nat.{ℕ, ◌+◌, ◌-◌, max, ◌<◌, ◌≤◌}
 use native.Mathlib.Numerals.{add-one}
 use native.Mathlib.Decide.{ℕ_discrete}
 use native.Mathlib.Omega.{arith}
@@ -21,14 +21,14 @@ use Rattle.times.proofs.OrderLaws.{equal_pos}
 use Rattle.words.proofs.LoopLaws.{passed?}
 use Rattle.records.specs.declared.Node.{Node}
 use Rattle.slots.specs.declared.Slots.{Slots}
-use Rattle.records.specs.Records.{at, two, clashes}
+use Rattle.records.specs.Records.{clashes}
 use Rattle.slots.proofs.SlotLaws.{occupied_ones, occupied_most}
 use Rattle.plans.specs.declared.Plan.{Plan as Header}
-use Rattle.plans.specs.Plan.{Plan, PlanUnit, unit_in, node_in, switch_in, plan_read}
+use Rattle.plans.specs.Plan.{Plan, unit_in, node_in, switch_in, plan_read}
 use Rattle.plans.specs.Heads.{Whole}
 use Rattle.plans.specs.Judging.{longest_tap, idle_slots}
 use Rattle.plans.proofs.ReadLaws.{fold_read, units_read}
-use Rattle.plans.proofs.WholeLaws.{folds_so, units_so, wires_so, unit_so}
+use Rattle.plans.proofs.WholeLaws.{folds_so, units_so, wires_so}
 use Rattle.judging.specs.Answers.{no_cycles, TapsOf, UnitFigures, unit_right, Held, Occupied}
 use Rattle.judging.proofs.SwitchLaws.{counts_of, node_fit}
 
@@ -74,12 +74,10 @@ ones_most p q tap mask f = omega (arith, f.ones_are, occupied_most p.fold (lengt
 
 module _ (b : List ℕ) (p : Header) where
   -- as the code compares them
-  pub figures_so : Whole b p → (q : ℕ) → q < p.units → (tap line : ℤ) (mask idle o : ℕ) → o ≡ 9 + 7 * q → UnitFigures (plan_read b) q tap mask →
-      line ≡ pos (two b (o + 4)) → idle ≡ at b (o + 6) → (int_eq line tap && eqb idle (p.fold - ones mask)) ≡ unit_right (plan_read b) q
-  figures_so w q l tap line mask idle o eo f e_line e_idle =
+  pub figures_so : Whole b p → (q : ℕ) (tap line : ℤ) (mask idle : ℕ) → UnitFigures (plan_read b) q tap mask → line ≡ pos (unit_in (plan_read b) q).line →
+      idle ≡ (unit_in (plan_read b) q).idle → (int_eq line tap && eqb idle (p.fold - ones mask)) ≡ unit_right (plan_read b) q
+  figures_so w q tap line mask idle f line_is idle_is =
       let pl = plan_read b in
-      let line_is : line ≡ pos (unit_in pl q).line = e_line ∙ ap (λ (o : ℕ). pos (two b (o + 4))) eo ∙ sym (ap (λ (u : PlanUnit). pos u.line) (unit_so b p w q l)) in
-      let idle_is : idle ≡ (unit_in pl q).idle = e_idle ∙ ap (λ (o : ℕ). at b (o + 6)) eo ∙ sym (ap (λ (u : PlanUnit). u.idle) (unit_so b p w q l)) in
       let less : p.fold - ones mask ≡ idle_slots pl q = ap₂ (λ (n k : ℕ). n - k) (folds_so b p w) f.ones_are in
       ap₂ (λ (x y : Bool). x && y) (ap₂ int_eq line_is f.tap_is ∙ equal_pos (unit_in pl q).line (longest_tap (length pl.switches) (switch_in pl) q)) (ap₂ eqb idle_is less)
 

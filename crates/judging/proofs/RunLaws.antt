@@ -1,7 +1,7 @@
 -- The runs of a plan's records: they lie in the bytes, and what is read there is the plan's. Assumes nothing.
 use mathlib.Core.Path.{◌≡◌, refl, sym, ap}
 use mathlib.Core.List.{List}
-use Prim.Native.Nat.{ℕ, ◌+◌, ◌*◌, ◌<◌}
+use Prim.Native.Nat.{ℕ, ◌<◌}
 use native.Mathlib.Omega.{arith}
 use lib.ListN.{length}
 use Rattle.records.specs.declared.reading.Run.{Run}
@@ -46,7 +46,3 @@ module _ (b : List ℕ) (p : Header) (w : Whole b p) where
   pub switch_marked : (r : Run) → r ≡ wire_run plan_format p.units p.nodes p.wires → (e : ℕ) →
       marked b (place r e) (mark_of r) ≡ marked b (wire_place plan_format b e) plan_format.wire_mark
   switch_marked r h e = rw (h, w.said) refl
-
-  -- its place
-  pub switch_place_said : (e : ℕ) → 9 + 7 * p.units + 9 * p.nodes + 8 * e ≡ wire_place plan_format b e
-  switch_place_said e = rw w.said refl

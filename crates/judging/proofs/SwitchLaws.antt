@@ -3,7 +3,7 @@ use mathlib.Core.Path.{◌≡◌, refl, sym, ap, ◌∙◌}
 use mathlib.Core.Logic.{inl, inr}
 use mathlib.Core.Bool.{Bool, false, not, ◌&&◌, and-true, and-false, and_assoc}
 use mathlib.Core.List.{List}
-use Prim.Native.Nat.{ℕ, ◌+◌, ◌*◌, ◌<◌, ◌≤◌}
+use Prim.Native.Nat.{ℕ, ◌+◌, ◌<◌, ◌≤◌}
 use native.Mathlib.Decide.{dec_le, ℕ_discrete}
 use native.Mathlib.Omega.{arith}
 use lib.Dec.{ltb, leb, eqb}
@@ -30,8 +30,7 @@ use Rattle.plans.specs.Heads.{joint_at, Whole}
 use Rattle.plans.specs.Judging.{switch_fits}
 use Rattle.plans.proofs.ReadLaws.{fold_read, units_read, nodes_read, switches_read}
 use Rattle.plans.proofs.JudgingLaws.{SwitchFits, switch_split}
-use Rattle.plans.proofs.WholeLaws.{folds_so, units_so, nodes_so, switch_so}
-use Rattle.judging.proofs.RunLaws.{switch_place_said}
+use Rattle.plans.proofs.WholeLaws.{folds_so, units_so, nodes_so, switch_said}
 use Rattle.judging.specs.Answers.{as_switch, fits_by, switch_fault, switch_answer, clash_fault, input_of, Fronted, Held, Occupied, InputsOf}
 
 -- ---- nodes in their ranges
@@ -116,9 +115,9 @@ module _ (b : List ℕ) (p : Header) (f : Fronted b p) where
       ]
 
   -- what the reader got of switch e
-  pub joint_fits : (e : ℕ) → e < p.wires → (j : Joint) → j ≡ joint_at b (9 + 7 * p.units + 9 * p.nodes + 8 * e) →
+  pub joint_fits : (e : ℕ) → e < p.wires → (j : Joint) → j ≡ joint_at b (wire_place plan_format b e) →
       switch_fits (plan_read b) (as_switch j) ≡ switch_fits (plan_read b) (switch_in (plan_read b) e)
-  joint_fits e l j is = ap (λ (j : Joint). switch_fits (plan_read b) (as_switch j)) is ∙ sym (ap (switch_fits (plan_read b)) (switch_so b p f.whole e l))
+  joint_fits e l j is = ap (λ (j : Joint). switch_fits (plan_read b) (as_switch j)) is ∙ sym (ap (switch_fits (plan_read b)) (switch_said b p f.whole e l))
 
   -- the input of a switch in its ranges has room in the masks
   fit_masked : (e : ℕ) → SwitchFits (plan_read b) (switch_in (plan_read b) e) → InputMasked (input_of (plan_read b) e)
@@ -181,8 +180,8 @@ switch_got b p f e l j is =
     let pl = plan_read b in
     let g = got_none (joint_at b (wire_place plan_format b e)) j (switch_fault b e) is in
     let fit = switch_split pl (switch_in pl e) (record_split b (wire_place plan_format b e) plan_format.wire_mark (switch_fits pl (switch_in pl e)) g.0).1 in
-    let at : j ≡ joint_at b (9 + 7 * p.units + 9 * p.nodes + 8 * e) = g.1 ∙ ap (joint_at b) (sym (switch_place_said b p f.whole e)) in
-    let so = switch_so b p f.whole e l in
+    let at = g.1 in
+    let so = switch_said b p f.whole e l in
     let from : j.source ≡ (switch_in pl e).source = ap (λ (j : Joint). j.source) at ∙ sym (ap (λ (w : Switch). w.source) so) in
     record {
       input_is = ap joint_input at ∙ sym (ap (λ (w : Switch). record { unit = w.unit; slot = w.slot; input = w.input }) so);

@@ -11,6 +11,7 @@ ghost use Rattle.judging.specs.Answers.{header_answer, plan_answer, switches_fau
 use crate::figures::figures_right;
 use crate::switches::{Joined, join_switches};
 use plans::Plan;
+use plans::whole::WholePlan;
 use records::reading::{Reason, judge_parts};
 use slots::{Slots, slots_in};
 
@@ -37,41 +38,44 @@ fn judge_front(b: &[u8], p: Plan) -> Result<(), Reason>
     judge_parts(b, whole, p.fold, p.unit_run(), p.node_run())
 }
 
+// What the parts have shown of a plan (`Fronted`, `Held`) stands in clauses: it grows from part to part over one plan that is lent, and a
+// type for each stage would wrap the same plan anew.
+
 // The masks of the occupied slots.
-fn slots_of(b: &[u8], p: Plan) -> Slots
-    requires { Fronted b.now p }
-    ensures { SlotsOf p.nodes (λ x. (node_in (plan_read b.now) x).node) result }
+fn slots_of(plan: &WholePlan) -> Slots
+    requires { Fronted plan.now.b.now plan.now.head }
+    ensures { SlotsOf plan.now.head.nodes (λ x. (node_in (plan_read plan.now.b.now) x).node) result }
 {
-    slots_in(b, p.node_run())
+    slots_in(plan.b, plan.head.node_run())
 }
 
 // Inputs not fed once, then figures that are not right.
-fn judge_inputs(b: &[u8], p: Plan, occupied: &[u32], joined: &Joined) -> Result<(), Reason>
-    requires held { Held b.now p }
-    requires occupied { Occupied (plan_read b.now) occupied.now }
-    requires joins { Joins (plan_read b.now) p.wires joined.now }
-    ensures { result ≡ judged (fed_fault (plan_read b.now) then figures_fault (plan_read b.now)) }
+fn judge_inputs(plan: &WholePlan, occupied: &[u32], joined: &Joined) -> Result<(), Reason>
+    requires held { Held plan.now.b.now plan.now.head }
+    requires occupied { Occupied (plan_read plan.now.b.now) occupied.now }
+    requires joins { Joins (plan_read plan.now.b.now) plan.now.head.wires joined.now }
+    ensures { result ≡ judged (fed_fault (plan_read plan.now.b.now) then figures_fault (plan_read plan.now.b.now)) }
 {
-    if !joined.fed.once(b, p.unit_run(), occupied) {
+    if !joined.fed.once(plan.b, plan.head.unit_run(), occupied) {
         return Err(Reason::Unfed);
     }
-    if !figures_right(b, p, joined.taps, occupied) {
+    if !figures_right(plan, joined.taps, occupied) {
         return Err(Reason::Figures);
     }
     Ok(())
 }
 
 // The first fault of the switches, then 4, 5 and 9.
-fn judge_rest(b: &[u8], p: Plan) -> Result<(), Reason>
-    requires { Fronted b.now p }
-    ensures { result ≡ judged (switches_fault b.now then nodes_fault (plan_read b.now)) }
+fn judge_rest(plan: &WholePlan) -> Result<(), Reason>
+    requires { Fronted plan.now.b.now plan.now.head }
+    ensures { result ≡ judged (switches_fault plan.now.b.now then nodes_fault (plan_read plan.now.b.now)) }
 {
-    let slots = slots_of(b, p);
-    let joined = join_switches(b, p, &slots.occupied)?;
+    let slots = slots_of(plan);
+    let joined = join_switches(plan, &slots.occupied)?;
     if slots.clash {
         return Err(Reason::Clash);
     }
-    judge_inputs(b, p, &slots.occupied, &joined)
+    judge_inputs(plan, &slots.occupied, &joined)
 }
 
 // The plan that the bytes are, or the reason of their first fault.
@@ -80,6 +84,6 @@ pub fn judge(b: &[u8]) -> Result<Plan, Reason>
 {
     let p = read_header(b)?;
     judge_front(b, p)?;
-    judge_rest(b, p)?;
+    judge_rest(&WholePlan { b, head: p })?;
     Ok(p)
 }

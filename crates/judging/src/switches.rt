@@ -5,21 +5,22 @@ ghost use Rattle.records.specs.Records.{most_fold, most_units};
 ghost use Rattle.plans.specs.Plan.{plan_read};
 ghost use Rattle.judging.specs.Answers.{fits_by, switch_answer, Fronted, Occupied, InputsOf, JoinedBy};
 
-use plans::{Joint, Plan, joint_at, tap_of};
+use plans::whole::WholePlan;
+use plans::{Joint, Plan};
 use records::Unit;
-use records::reading::{Header, Reason, mark_before_range, marked, unit_in};
+use records::reading::{Header, Reason, marked, unit_in};
 use slots::feeding::{Fed, Input};
 use times::Cycles;
 use words::masks;
 
 // How many inputs each unit has.
-fn inputs_of(b: &[u8], p: Plan) -> [u8; Header::MOST_UNITS]
-    requires { Fronted b.now p }
-    ensures { InputsOf (plan_read b.now) p.units result }
+fn inputs_of(plan: &WholePlan) -> [u8; Header::MOST_UNITS]
+    requires { Fronted plan.now.b.now plan.now.head }
+    ensures { InputsOf (plan_read plan.now.b.now) plan.now.head.units result }
 {
     let mut inputs = [0; Header::MOST_UNITS];
-    for q in 0..p.units as usize {
-        let unit = unit_in(b, p.unit_run(), q);
+    for q in 0..plan.head.units as usize {
+        let unit = unit_in(plan.b, plan.head.unit_run(), q);
         inputs[q] = Unit::inputs(unit.kind);
     }
     inputs
@@ -42,25 +43,19 @@ fn switch_fits(p: Plan, occupied: &[u32], inputs: &[u8], j: Joint) -> bool
 }
 
 // The mark's test is a branch here, and no value for `mark_before_range`: a step reads every switch.
-fn read_switch(
-    b: &[u8],
-    p: Plan,
-    occupied: &[u32],
-    inputs: &[u8],
-    e: usize,
-) -> Result<Joint, Reason>
-    requires fronted { Fronted b.now p }
-    requires occupied { Occupied (plan_read b.now) occupied.now }
-    requires inputs_of { InputsOf (plan_read b.now) p.units inputs.now }
+fn read_switch(plan: &WholePlan, occupied: &[u32], inputs: &[u8], e: usize) -> Result<Joint, Reason>
+    requires fronted { Fronted plan.now.b.now plan.now.head }
+    requires occupied { Occupied (plan_read plan.now.b.now) occupied.now }
+    requires inputs_of { InputsOf (plan_read plan.now.b.now) plan.now.head.units inputs.now }
     requires inputs_len { length inputs.now ≡ most_units }
-    requires e_lt_wires { e < p.wires }
-    ensures { result ≡ switch_answer b.now e }
+    requires e_lt_wires { e < plan.now.head.wires }
+    ensures { result ≡ switch_answer plan.now.b.now e }
 {
-    if !marked(b, p.switch_run(), e) {
+    if !marked(plan.b, plan.head.switch_run(), e) {
         return Err(Reason::Mark);
     }
-    let joint = joint_at(b, p.switch_place(e));
-    if !switch_fits(p, occupied, inputs, joint) {
+    let joint = plan.joint(e);
+    if !switch_fits(plan.head, occupied, inputs, joint) {
         return Err(Reason::Range);
     }
     Ok(joint)
@@ -85,25 +80,25 @@ pub struct Joined {
 }
 
 // The switches are judged and what they join is gathered in one pass.
-pub fn join_switches(b: &[u8], p: Plan, occupied: &[u32]) -> Result<Joined, Reason>
-    requires fronted { Fronted b.now p }
-    requires occupied { Occupied (plan_read b.now) occupied.now }
-    ensures { JoinedBy b.now p.wires result }
+pub fn join_switches(plan: &WholePlan, occupied: &[u32]) -> Result<Joined, Reason>
+    requires fronted { Fronted plan.now.b.now plan.now.head }
+    requires occupied { Occupied (plan_read plan.now.b.now) occupied.now }
+    ensures { JoinedBy plan.now.b.now plan.now.head.wires result }
 {
-    let inputs = inputs_of(b, p);
+    let inputs = inputs_of(plan);
     let mut joined = Joined {
         fed: Fed::none(),
         taps: [Cycles::ZERO; Header::MOST_UNITS],
     };
-    for e in 0..p.wires as usize {
-        let got = read_switch(b, p, occupied, &inputs, e);
+    for e in 0..plan.head.wires as usize {
+        let got = read_switch(plan, occupied, &inputs, e);
         let Ok(joint) = got else {
             return Err(got.unwrap_err());
         };
         joined.fed.feed(input_of(joint));
         let q = joint.source as usize;
         let longest = joined.taps[q];
-        joined.taps[q] = longest.max(tap_of(b, p, e));
+        joined.taps[q] = longest.max(plan.tap(e));
     }
     Ok(joined)
 }

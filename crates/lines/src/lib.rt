@@ -4,14 +4,13 @@
 ghost use Rattle.std.specs.Prelude.{◌+◌, ◌*◌, ◌^◌, ◌<◌, ◌≤◌, length};
 ghost use Rattle.records.specs.Records.{at, two};
 ghost use Rattle.plans.specs.Plan.{plan_unit_at, plan_node_at, switch_at, plan_read};
-ghost use Rattle.plans.specs.Heads.{Whole};
 ghost use Rattle.words.specs.Loops.{joined};
 ghost use Rattle.lines.specs.Text.{head_line, unit_line, node_line, switch_line, unit_lines, node_lines, switch_lines, plan_text, line_most};
 ghost use Rattle.numerals.specs.Wrote.{Wrote};
 ghost use Rattle.numerals.specs.Written.{Written};
 
 use numerals::Text;
-use plans::Plan;
+use plans::whole::WholePlan;
 
 // The header's line.
 fn head_line(b: &[u8], text: &mut Text)
@@ -72,45 +71,41 @@ fn switch_line(b: &[u8], o: usize, i: u32, text: &mut Text)
 
 // The lines of each sort of record. Which record a line shows is a fact of its sort, so that one function over all sorts would ask for
 // it with the line, and be no plainer.
-fn unit_lines(b: &[u8], p: Plan, text: &mut Text)
-    requires whole { Whole b.now p }
-    requires units_bound { text.old.to + line_most * p.units < 2 ^ 64 }
-    ensures { Written (line_most * p.units) text.old (joined p.units (unit_lines (plan_read b.now))) text.new }
+fn unit_lines(plan: &WholePlan, text: &mut Text)
+    requires { text.old.to + line_most * plan.now.head.units < 2 ^ 64 }
+    ensures { Written (line_most * plan.now.head.units) text.old (joined plan.now.head.units (unit_lines (plan_read plan.now.b.now))) text.new }
 {
-    for i in 0..p.units as usize {
-        unit_line(b, p.unit_place(i), i as u32, text);
+    for i in 0..plan.head.units as usize {
+        unit_line(plan.b, plan.head.unit_place(i), i as u32, text);
     }
 }
 
-fn node_lines(b: &[u8], p: Plan, text: &mut Text)
-    requires whole { Whole b.now p }
-    requires nodes_bound { text.old.to + line_most * p.nodes < 2 ^ 64 }
-    ensures { Written (line_most * p.nodes) text.old (joined p.nodes (node_lines (plan_read b.now))) text.new }
+fn node_lines(plan: &WholePlan, text: &mut Text)
+    requires { text.old.to + line_most * plan.now.head.nodes < 2 ^ 64 }
+    ensures { Written (line_most * plan.now.head.nodes) text.old (joined plan.now.head.nodes (node_lines (plan_read plan.now.b.now))) text.new }
 {
-    for i in 0..p.nodes as usize {
-        node_line(b, p.node_place(i), i as u32, text);
+    for i in 0..plan.head.nodes as usize {
+        node_line(plan.b, plan.head.node_place(i), i as u32, text);
     }
 }
 
-fn switch_lines(b: &[u8], p: Plan, text: &mut Text)
-    requires whole { Whole b.now p }
-    requires wires_bound { text.old.to + line_most * p.wires < 2 ^ 64 }
-    ensures { Written (line_most * p.wires) text.old (joined p.wires (switch_lines (plan_read b.now))) text.new }
+fn switch_lines(plan: &WholePlan, text: &mut Text)
+    requires { text.old.to + line_most * plan.now.head.wires < 2 ^ 64 }
+    ensures { Written (line_most * plan.now.head.wires) text.old (joined plan.now.head.wires (switch_lines (plan_read plan.now.b.now))) text.new }
 {
-    for i in 0..p.wires as usize {
-        switch_line(b, p.switch_place(i), i as u32, text);
+    for i in 0..plan.head.wires as usize {
+        switch_line(plan.b, plan.head.switch_place(i), i as u32, text);
     }
 }
 
 // All lines of a plan, from the buffer's beginning on; answers how many bytes they are.
-pub fn plan_lines(b: &[u8], p: Plan, out: &mut [u8]) -> usize
-    requires { Whole b.now p }
-    ensures { Wrote (line_most * (1 + p.units + p.nodes + p.wires)) out.old 0 (plan_text (plan_read b.now)) out.new result }
+pub fn plan_lines(plan: &WholePlan, out: &mut [u8]) -> usize
+    ensures { Wrote (line_most * (1 + plan.now.head.units + plan.now.head.nodes + plan.now.head.wires)) out.old 0 (plan_text (plan_read plan.now.b.now)) out.new result }
 {
     let mut text = Text::new(out);
-    head_line(b, &mut text);
-    unit_lines(b, p, &mut text);
-    node_lines(b, p, &mut text);
-    switch_lines(b, p, &mut text);
+    head_line(plan.b, &mut text);
+    unit_lines(plan, &mut text);
+    node_lines(plan, &mut text);
+    switch_lines(plan, &mut text);
     text.to
 }

@@ -10,7 +10,7 @@ use Rattle.machine.specs.declared.NotCleared.TheVariants as C
 use Rattle.machine.specs.declared.NotStepped.{NotStepped}
 use Rattle.machine.specs.declared.NotStepped.TheVariants as S
 
--- column no. of 01's table of refusals: 0 where there is none
+-- column no. of 01's table of refusals
 abbrev pub not_cleared_number : NotCleared → ℕ
 not_cleared_number (C.Refused why) = reason_number why
 not_cleared_number C.Short = 7

@@ -38,16 +38,16 @@ pub enum NotStepped {
 impl From<Reason> for NotCleared {
     ghost from_gives = { λ why e. e ≡ C.Refused why };
 
-    fn from(why: Reason) -> Self {
-        Self::Refused(why)
+    fn from(why: Reason) -> NotCleared {
+        NotCleared::Refused(why)
     }
 }
 
 impl From<Reason> for NotStepped {
     ghost from_gives = { λ why e. e ≡ S.Refused why };
 
-    fn from(why: Reason) -> Self {
-        Self::Refused(why)
+    fn from(why: Reason) -> NotStepped {
+        NotStepped::Refused(why)
     }
 }
 

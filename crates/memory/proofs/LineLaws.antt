@@ -8,13 +8,13 @@ use native.Mathlib.Numerals.{add-one}
 use native.Mathlib.Omega.{arith}
 use lib.ListN.{length, get_or, set}
 use lib.Seq.{get_or-set_same, get_or-set_other}
-use Rattle.records.specs.Records.{at, two}
+use Rattle.records.specs.Records.{at}
 use Rattle.plans.specs.declared.Plan as Head
 use Rattle.plans.specs.Plan.{PlanUnit, unit_in, plan_read}
 use Rattle.plans.proofs.WholeLaws.{unit_so}
 use Rattle.memory.specs.Memory.{base, places}
 use Rattle.memory.specs.Taken.{Taken}
-use Rattle.memory.proofs.TakenLaws.{whole_taken, few_units, places_so, unit_fine}
+use Rattle.memory.proofs.TakenLaws.{whole_taken, few_units, unit_fine}
 
 module _ (b : List ℕ) (p : Head.Plan) (t : Taken b p) where
   -- unit q's places begin where the units' before it end
@@ -34,8 +34,3 @@ module _ (b : List ℕ) (p : Head.Plan) (t : Taken b p) where
 
   pub depth_so : (q : ℕ) → q < p.units → ((unit_in (plan_read b) q).unit.depth ≡ at b (9 + 7 * q + 3)) × (0 < (unit_in (plan_read b) q).unit.depth)
   depth_so q h = (ap (λ (u : PlanUnit). u.unit.depth) (unit_so b p (whole_taken t) q h), (unit_fine b p t q h).deep)
-
-  -- the places of a unit, from its depth and the field that its line is read from
-  pub places_are : (q : ℕ) → q < p.units → (n d o line : ℕ) → n ≡ d + line → d ≡ (unit_in (plan_read b) q).unit.depth → o ≡ 9 + 7 * q → line ≡ two b (o + 4) →
-      n ≡ places (plan_read b) q
-  places_are q h n d o line is deep at_o so = omega (arith, is, deep, (depth_so q h).0, rw at_o at so, places_so b p t q h)

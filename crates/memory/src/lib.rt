@@ -1,12 +1,13 @@
 // The machine's memory: where the places of each unit stand, in the words that are lent.
 #![tactic(auto)]
 
-ghost use Rattle.std.specs.Prelude.{◌≡◌, ◌<◌, ◌^◌};
+ghost use Rattle.std.specs.Prelude.{◌≡◌, ◌<◌};
 ghost use Rattle.plans.specs.Plan.{plan_read};
 ghost use Rattle.memory.specs.Memory.{size};
 ghost use Rattle.memory.specs.Taken.{Taken, LinesAt};
 
 use plans::Plan;
+use plans::whole::WholePlan;
 use records::reading::Header;
 
 // The word of every node before its first.
@@ -24,6 +25,16 @@ impl<'a> FinePlan<'a> {
     ghost use Rattle.plans.specs.Plan.{unit_in, plan_read};
     ghost use Rattle.memory.specs.Memory.{places};
 
+    // Its records.
+    pub fn whole(&self) -> WholePlan<'a>
+        ensures { (result.b.now ≡ self.now.b.now) × (result.head ≡ self.now.head) }
+    {
+        WholePlan {
+            b: self.b,
+            head: self.head,
+        }
+    }
+
     // The depth of a unit.
     pub fn depth(&self, q: usize) -> u8
         requires { q < self.now.head.units }
@@ -37,9 +48,9 @@ impl<'a> FinePlan<'a> {
     pub fn places(&self, q: usize) -> usize
         requires { q < self.now.head.units }
         ensures is { result ≡ places (plan_read self.now.b.now) q }
-        ensures few { result < 2 ^ 32 }
+        ensures few { result < 65791 }
     {
-        plans::line_at(self.b, self.head.unit_place(q)).places(self.depth(q))
+        self.whole().line(q).places(self.depth(q))
     }
 
     // Where the places of the units begin.

@@ -24,9 +24,6 @@ written_then x y = record { wrote = wrote_then x.wrote y.wrote; same = y.same �
 pub written_more : (w : List ℕ) {i : ℕ} {before mid after : Text} → i < length w → Written i before (take i w) mid → Written 1 mid (get_or w i 0 ∷ []) after → Written (i + 1) before (take (i + 1) w) after
 written_more w {i} h x y = rw (add-one i, take-suc w i 0 h, ← add-one i) (written_then x y)
 
-pub written_whole : (w : List ℕ) {i : ℕ} {before after : Text} → i ≤ length w → length w ≤ i → Written i before (take i w) after → Written (length w) before w after
-written_whole w {i} h l x = let e : i ≡ length w = omega arith in rw (e, take-length w) at x
-
 -- what was written into a text from the beginning of a buffer on
 pub written_out : {m : ℕ} {before after : Text} {bs out left : List ℕ} → (before.out.now ≡ out) × (before.to ≡ 0) → left ≡ after.out.now → Written m before bs after → Wrote m out 0 bs left after.to
 written_out b e w = rw (← b.0, ← b.1, e) w.wrote

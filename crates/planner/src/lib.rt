@@ -29,8 +29,8 @@ use writing::write_loop_wire;
 
 pub mod figures;
 
-// Why there is no plan: the sheet's fault; it does not fold, and a loop of this length is shown; or the buffer is shorter than the plan, which
-// has this length.
+// Why there is no plan: the sheet's fault; it does not fold, and a loop of this length is shown; or the buffer is shorter than the
+// plan, which has this length.
 #[derive(Clone, Copy, Debug, PartialEq, Eq)]
 pub enum NoPlan {
     Refused(Reason),
@@ -41,8 +41,8 @@ pub enum NoPlan {
 impl From<Reason> for NoPlan {
     ghost from_gives = { λ why e. e ≡ N.Refused why };
 
-    fn from(why: Reason) -> Self {
-        Self::Refused(why)
+    fn from(why: Reason) -> NoPlan {
+        NoPlan::Refused(why)
     }
 }
 

@@ -4,9 +4,11 @@ use mathlib.Core.List.{List}
 use Prim.Native.Nat.{ℕ, ◌+◌, ◌*◌, ◌<◌, ◌≤◌}
 use native.Mathlib.Omega.{arith}
 use lib.ListN.{length}
+use Rattle.records.proofs.ReadingLaws.{Counts}
 use Rattle.plans.specs.declared.Plan as Head
-use Rattle.plans.specs.Plan.{unit_in, node_in, switch_in, plan_unit_at, plan_node_at, switch_at, plan_read}
-use Rattle.plans.specs.Heads.{Whole}
+use Rattle.records.specs.Records.{wire_place}
+use Rattle.plans.specs.Plan.{unit_in, node_in, switch_in, plan_format, plan_unit_at, plan_node_at, switch_at, plan_read}
+use Rattle.plans.specs.Heads.{Counted, Whole}
 use Rattle.plans.proofs.ReadLaws.{fold_read, units_read, nodes_read, switches_read, unit_read, node_read, switch_read}
 
 module _ (b : List ℕ) (p : Head.Plan) (w : Whole b p) where
@@ -22,6 +24,13 @@ module _ (b : List ℕ) (p : Head.Plan) (w : Whole b p) where
 
   pub wires_so : p.wires ≡ length (plan_read b).switches
   wires_so = ap (λ (h : Head.Plan). h.wires) w.said ∙ sym (switches_read b)
+
+  pub counted_so : Counts b → Counted p
+  counted_so n = record {
+    few_units = omega (arith, units_so, units_read b, n.units_most);
+    few_nodes = omega (arith, nodes_so, nodes_read b, n.nodes_most);
+    few_wires = omega (arith, wires_so, switches_read b, n.wires_most);
+  }
 
   -- records lie in the bytes
   pub whole_so : length b ≡ 9 + 7 * p.units + 9 * p.nodes + 8 * p.wires
@@ -43,5 +52,8 @@ module _ (b : List ℕ) (p : Head.Plan) (w : Whole b p) where
   pub node_so : (x : ℕ) → x < p.nodes → node_in (plan_read b) x ≡ plan_node_at b (9 + 7 * p.units + 9 * x)
   node_so x h = node_read b x (omega (arith, nodes_so, nodes_read b)) ∙ ap (λ (u : ℕ). plan_node_at b (9 + 7 * u + 9 * x)) (sym (units_so ∙ units_read b))
 
+  pub switch_said : (e : ℕ) → e < p.wires → switch_in (plan_read b) e ≡ switch_at b (wire_place plan_format b e)
+  switch_said e h = switch_read b e (omega (arith, wires_so, switches_read b))
+
   pub switch_so : (e : ℕ) → e < p.wires → switch_in (plan_read b) e ≡ switch_at b (9 + 7 * p.units + 9 * p.nodes + 8 * e)
-  switch_so e h = switch_read b e (omega (arith, wires_so, switches_read b)) ∙ sym (rw w.said refl)
+  switch_so e h = switch_said e h ∙ sym (rw w.said refl)

@@ -1,14 +1,13 @@
 // Plans: the constants of their records, where each stands, and what it says.
 #![tactic(auto)]
 
-ghost use Rattle.std.specs.Prelude.{◌≡◌, ◌+◌, ◌*◌, ◌%◌, ◌<◌, ◌≤◌, length, pos};
-ghost use Rattle.records.specs.Records.{at, two};
+ghost use Rattle.std.specs.Prelude.{◌≡◌, ◌+◌, ◌*◌, ◌%◌, ◌<◌, ◌≤◌};
 ghost use Rattle.records.specs.Answers.{unit_run, node_run, wire_run};
-ghost use Rattle.plans.specs.Plan.{switch_in, plan_format, plan_read};
-ghost use Rattle.plans.specs.Heads.{joint_at, Whole};
+ghost use Rattle.plans.specs.Plan.{plan_format};
 
-use records::reading::{Header, Run, two_at};
-use times::{Cycles, Iterations};
+use records::reading::{Header, Run};
+
+pub mod whole;
 
 // What a plan's header says: N and the counts of units, nodes and switches.
 #[derive(Clone, Copy)]
@@ -128,45 +127,6 @@ impl From<Header> for Plan {
     }
 }
 
-// The line length of the unit, the start of the node and the tap of the switch at a place.
-pub fn line_at(b: &[u8], at: usize) -> Cycles
-    requires { at + 6 ≤ length b.now }
-    ensures { result.0 ≡ pos (two b.now (at + 4)) }
-{
-    Cycles::from(two_at(b, at + 4))
-}
-
-// The idle count of the unit at a place.
-pub fn idle_at(b: &[u8], o: usize) -> u8
-    requires { o + 7 ≤ length b.now }
-    ensures { result ≡ at b.now (o + 6) }
-{
-    b[o + 6]
-}
-
-pub fn start_at(b: &[u8], at: usize) -> Iterations
-    requires { at + 9 ≤ length b.now }
-    ensures { result.0 ≡ pos (two b.now (at + 7)) }
-{
-    Iterations::from(two_at(b, at + 7))
-}
-
-pub fn tap_at(b: &[u8], at: usize) -> Cycles
-    requires { at + 8 ≤ length b.now }
-    ensures { result.0 ≡ pos (two b.now (at + 6)) }
-{
-    Cycles::from(two_at(b, at + 6))
-}
-
-// The tap of switch e.
-pub fn tap_of(b: &[u8], p: Plan, e: usize) -> Cycles
-    requires whole { Whole b.now p }
-    requires e_lt_wires { e < p.wires }
-    ensures { result.0 ≡ pos (switch_in (plan_read b.now) e).tap }
-{
-    tap_at(b, p.switch_place(e))
-}
-
 // What a switch joins: in that slot the unit's input reads the source.
 #[derive(Clone, Copy)]
 pub struct Joint {
@@ -174,16 +134,4 @@ pub struct Joint {
     pub input: u8,
     pub slot: u8,
     pub source: u8,
-}
-
-pub fn joint_at(b: &[u8], at: usize) -> Joint
-    requires { at + 6 ≤ length b.now }
-    ensures { result ≡ joint_at b.now at }
-{
-    Joint {
-        unit: b[at + 2],
-        input: b[at + 3],
-        slot: b[at + 4],
-        source: b[at + 5],
-    }
 }

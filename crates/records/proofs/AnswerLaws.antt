@@ -76,12 +76,6 @@ first_refused_is n (Err why) got f h told =
 
 -- ---- runs
 
--- a record of a run lies in the bytes
-pub in_run : (n : ℕ) (r : Run) (whole i : ℕ) → Inside n r whole → i < r.count → place r i + n ≤ whole
-in_run n r whole i h l =
-    let m : r.size * suc i ≤ r.size * r.count = mul-le-mul_left r.size l in
-    omega (arith, h.wide, h.ends)
-
 -- the runs lie one behind the other
 module _ (f : Format) (u n w k : ℕ) where
   pub units_inside : k ≤ f.unit_length → Inside k (unit_run f u) (place (wire_run f u n w) w)

@@ -29,7 +29,7 @@ impl Net<'_> {
 
     const TO: usize = 3;
 
-    // The node that wire e leaves.
+    // The node that wire e leaves. The two ends have the paper's names: one function for both would ask for a side.
     pub fn from(&self, e: usize) -> usize
         requires { e < self.now.wires }
         ensures { result ≡ from_at self.now.b.now self.now.at e }

@@ -6,7 +6,7 @@
 use records::answers::{Refusal, number};
 use scripts::filling::{fill, store};
 use scripts::reading::{Script, byte, decode, front, front_mut, read_full};
-use scripts::showing::{print, print_number, print_title, print_words};
+use scripts::showing::{print, print_line, print_number, print_title, print_words};
 use std::io;
 
 // How far the words of neighbouring channels stand apart.
@@ -63,18 +63,14 @@ fn put(script: &mut Script, memory: &mut [u32]) {
 // 6: clear.
 fn clear(rt: &impl Print, s: &State, memory: &mut [u32]) -> io::Result<()> {
     let answer = machine::clear(s.plan, front_mut(memory, s.memory));
-    print(rt, b"clear")?;
-    print_number(rt, number(&answer) as u64)?;
-    print(rt, b"\n")
+    print_line(rt, b"clear", &[number(&answer) as u64])
 }
 
 // 7: how many words the plan's memory has.
 fn count_words(rt: &impl Print, plan: &[u8]) -> io::Result<()> {
     let needed = machine::memory_words(plan);
-    print(rt, b"words")?;
-    print_number(rt, number(&needed) as u64)?;
-    print_number(rt, needed.unwrap_or(0) as u64)?;
-    print(rt, b"\n")
+    let words = needed.unwrap_or(0) as u64;
+    print_line(rt, b"words", &[number(&needed) as u64, words])
 }
 
 // One step with x on channel 0.

@@ -1,5 +1,5 @@
 // The commands of a script, read one field after the other, and the text that they stand in. Beyond the end all bytes are 0.
-ghost use Rattle.std.specs.Prelude.{◌≡◌, ◌≤◌, IfOk, length, take};
+ghost use Rattle.std.specs.Prelude.{◌≤◌, IfOk, length};
 
 use std::io;
 use std::io::Read;

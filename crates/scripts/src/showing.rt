@@ -10,6 +10,16 @@ pub fn print_number(rt: &impl Print, n: u64) -> io::Result<()> {
     print!(rt; " {n}")
 }
 
+// A line of a name and its numbers.
+pub fn print_line(rt: &impl Print, name: &[u8], numbers: &[u64]) -> io::Result<()> {
+    print(rt, name)?;
+    for n in numbers {
+        print_number(rt, *n)?;
+    }
+    print(rt, b"\n")
+}
+
+// Words, and bytes below: each has its format, which stands in the call.
 pub fn print_words(rt: &impl Print, words: &[u32]) -> io::Result<()> {
     for x in words {
         print!(rt; " {x:08x}")?;

@@ -1,15 +1,15 @@
-// Folding sheets: what a header says, and a sheet's records read where they stand.
+// Folding sheets: what a header says and where the records stand behind it, and a wire.
 #![tactic(auto)]
 
-ghost use Rattle.std.specs.Prelude.{◌≡◌, ◌+◌, ◌<◌, ◌≤◌, length};
-ghost use Rattle.records.specs.Answers.{place, unit_run, node_run, wire_run};
-ghost use Rattle.sheets.specs.Sheet.{sheet_format, sheet_of, unit_of, node_of, wire_of, wire_at};
-ghost use Rattle.sheets.specs.Answers.{Whole};
+ghost use Rattle.std.specs.Prelude.{◌≡◌};
+ghost use Rattle.records.specs.Answers.{unit_run, node_run, wire_run};
+ghost use Rattle.sheets.specs.Sheet.{sheet_format};
 
-use records::reading::{Header, Run, node_in, unit_in};
-use records::{Node, Unit};
+use records::reading::{Header, Run};
 
+pub mod held;
 pub mod judging;
+pub mod whole;
 
 // What a sheet's header says: N and the numbers of units, nodes and wires.
 #[derive(Clone, Copy)]
@@ -113,40 +113,4 @@ impl Wire {
             delays,
         }
     }
-}
-
-// Unit q of a sheet.
-pub fn unit_of(b: &[u8], sheet: Sheet, q: usize) -> Unit
-    requires whole { Whole b.now sheet }
-    requires q_lt_units { q < sheet.units }
-    ensures { result ≡ unit_of (sheet_of b.now) q }
-{
-    unit_in(b, sheet.unit_run(), q)
-}
-
-// Node x of a sheet.
-pub fn node_of(b: &[u8], sheet: Sheet, x: usize) -> Node
-    requires whole { Whole b.now sheet }
-    requires x_lt_nodes { x < sheet.nodes }
-    ensures { result ≡ node_of (sheet_of b.now) x }
-{
-    node_in(b, sheet.node_run(), x)
-}
-
-// Wire e of a sheet.
-pub fn wire_of(b: &[u8], sheet: Sheet, e: usize) -> Wire
-    requires whole { Whole b.now sheet }
-    requires e_lt_wires { e < sheet.wires }
-    ensures { result ≡ wire_of (sheet_of b.now) e }
-{
-    wire_in(b, sheet.wire_run(), e)
-}
-
-// Wire e of a run.
-fn wire_in(b: &[u8], wires: Run, e: usize) -> Wire
-    requires { place wires e + sheet_format.wire_length ≤ length b.now }
-    ensures { result ≡ wire_at b.now (place wires e) }
-{
-    let at = wires.place(e);
-    Wire::new(b[at + 2], b[at + 3], b[at + 4], b[at + 5])
 }

@@ -16,7 +16,7 @@ use rounds::settle;
 use sheets::Sheet;
 use times::Iterations;
 
-// The latest retiming: starts, and the rounds that it took.
+// The latest retiming: starts, and the rounds that it took. `rounds::Settled` has totals, which are no starts.
 #[derive(Clone, Copy)]
 pub struct Retimed {
     pub starts: [Iterations; Sheet::MOST_NODES],

@@ -13,9 +13,10 @@ use Rattle.records.specs.Numbers.{reason_number}
 use Rattle.records.proofs.AnswerLaws.{reason_positive}
 use Rattle.records.specs.Records.{most_units, most_nodes, most_wires}
 use Rattle.plans.specs.declared.Plan.{Plan}
-use Rattle.plans.specs.Heads.{Whole}
+use Rattle.plans.specs.Heads.{Counted, Whole}
 use Rattle.plans.specs.Plan.{plan_read}
 use Rattle.plans.specs.Judging.{plan_fault}
+use Rattle.plans.proofs.WholeLaws.{counted_so}
 use Rattle.judging.specs.Answers.{plan_answer}
 use Rattle.judging.proofs.AnswerLaws.{why_number, got_fine, got_whole, got_counts}
 use Rattle.lines.specs.Text.{plan_text}
@@ -52,6 +53,7 @@ module _ {fault most size : ℕ} {text nowhere left : List ℕ} (o : List ℕ) (
 -- a plan that is got: its header, and at most as many records as there may be
 pub record Got (b : List ℕ) (p : Plan) : Type 0 where
   pub whole : Whole b p
+  pub counted : Counted p
   pub fine : plan_fault b ≡ 0
   pub few : p.units + p.nodes + p.wires ≤ most_units + most_nodes + most_wires
 
@@ -59,7 +61,7 @@ pub got_of : (b : List ℕ) (p : Plan) → plan_answer b ≡ Ok p → Got b p
 got_of b p e =
     let w = got_whole b p e in
     let c = got_counts b p e in
-    record { whole = w; fine = got_fine b p e; few = rw w.said (omega arith) }
+    record { whole = w; counted = counted_so b p w c; fine = got_fine b p e; few = rw w.said (omega arith) }
 
 pub plan_refused : {n len : ℕ} (b o : List ℕ) (why : Reason) → plan_answer b ≡ Err why → n ≡ reason_number why → len ≡ 0 → Texting (plan_fault b) (plan_text (plan_read b)) o n len o
 plan_refused b o why e is z = texting_refused (plan_text (plan_read b)) o why (why_number b why e) is z

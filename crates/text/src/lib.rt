@@ -12,6 +12,7 @@ ghost use Rattle.text.specs.declared.NoText.TheVariants as N;
 use crate::refusals::{judge_loop, loop_line, refused_line};
 use judging::judge;
 use lines::plan_lines;
+use plans::whole::WholePlan;
 use records::answers::Refusal;
 use records::reading::{Header, Reason};
 
@@ -58,12 +59,13 @@ pub fn plan_text(plan: &[u8], out: &mut [u8]) -> Result<usize, NoText>
     ensures texting { Texting (plan_fault plan.now) (plan_text (plan_read plan.now)) out.old (texted_number result) (texted_length result) out.new }
     ensures result_bound { texted_length result ≤ LONGEST }
 {
-    let p = judge(plan)?;
-    let size = plan_lines(plan, p, &mut [0; 1]);
+    let head = judge(plan)?;
+    let whole = WholePlan { b: plan, head };
+    let size = plan_lines(&whole, &mut [0; 1]);
     if out.len() < size {
         return Err(NoText::Short(size));
     }
-    Ok(plan_lines(plan, p, out))
+    Ok(plan_lines(&whole, out))
 }
 
 // The text of refusal 6, with the wires of the loop that the planner left.

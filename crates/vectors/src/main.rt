@@ -6,7 +6,7 @@ use listings::listing;
 use records::answers::number;
 use scripts::filling::{fill, store};
 use scripts::reading::{Script, front, front_mut, read_full};
-use scripts::showing::{print, print_bytes, print_number, print_words};
+use scripts::showing::{print, print_bytes, print_line, print_number, print_words};
 use std::io;
 use text::LONGEST;
 
@@ -80,20 +80,16 @@ fn list(rt: &impl Print, sheet: &[u8]) -> io::Result<()> {
     Ok(())
 }
 
-// `N`: how many words the memory has.
+// `N`: how many words the memory has. `runs` prints the same under another word, which is all that differs.
 fn count_words(rt: &impl Print, plan: &[u8]) -> io::Result<()> {
     let needed = machine::memory_words(plan);
-    print(rt, b"need")?;
-    print_number(rt, number(&needed) as u64)?;
-    print_number(rt, needed.unwrap_or(0) as u64)?;
-    print(rt, b"\n")
+    let words = needed.unwrap_or(0) as u64;
+    print_line(rt, b"need", &[number(&needed) as u64, words])
 }
 
 fn clear(rt: &impl Print, plan: &[u8], memory: &mut [u32]) -> io::Result<()> {
     let answer = machine::clear(plan, memory);
-    print(rt, b"clear")?;
-    print_number(rt, number(&answer) as u64)?;
-    print(rt, b"\n")
+    print_line(rt, b"clear", &[number(&answer) as u64])
 }
 
 fn step(
@@ -126,6 +122,7 @@ fn steps(
     Ok(())
 }
 
+// What is lent goes slice by slice: a struct of three slices that are written gets no proof yet.
 // `C`, `S` and `R`: clear, steps, or both, on memory that was never cleared. All but `S` begin with a clear.
 fn run(
     rt: &impl Print,

@@ -4,6 +4,7 @@ ghost use Rattle.sheets.specs.Sheet.{sheet_of, unit_of, node_of, wire_of};
 ghost use Rattle.waits.specs.Fine.{Fine, Within};
 
 use records::{Node, Unit};
+use sheets::whole::WholeSheet;
 use sheets::{Sheet, Wire};
 
 // Bytes in which no fault is, and their header.
@@ -15,12 +16,23 @@ pub struct FineSheet<'a> {
     pub ghost within: { Within head },
 }
 
-impl FineSheet<'_> {
+impl<'a> FineSheet<'a> {
+    // The same bytes and header, of which no more is known than that the records are there.
+    pub fn whole(&self) -> WholeSheet<'a>
+        ensures b_is { result.b.now ≡ self.now.b.now }
+        ensures head_is { result.head ≡ self.now.head }
+    {
+        WholeSheet {
+            b: self.b,
+            head: self.head,
+        }
+    }
+
     pub fn unit(&self, q: usize) -> Unit
         requires { q < self.now.head.units }
         ensures { result ≡ unit_of (sheet_of self.now.b.now) q }
     {
-        sheets::unit_of(self.b, self.head, q)
+        self.whole().unit(q)
     }
 
     pub fn node(&self, x: usize) -> Node
@@ -28,7 +40,7 @@ impl FineSheet<'_> {
         ensures is { result ≡ node_of (sheet_of self.now.b.now) x }
         ensures on_unit { result.unit < self.now.head.units }
     {
-        sheets::node_of(self.b, self.head, x)
+        self.whole().node(x)
     }
 
     pub fn wire(&self, e: usize) -> Wire
@@ -37,6 +49,6 @@ impl FineSheet<'_> {
         ensures leaves { result.from < self.now.head.nodes }
         ensures meets { result.to < self.now.head.nodes }
     {
-        sheets::wire_of(self.b, self.head, e)
+        self.whole().wire(e)
     }
 }

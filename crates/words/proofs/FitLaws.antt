@@ -27,11 +27,6 @@ sum_size a b = one_side (a +ℤ b) (up a + up b) (down a + down b) (sumℤ a b)
 pub dif_size : (a b : ℤ) → (up (a -ℤ b) ≤ up a + down b) × (down (a -ℤ b) ≤ down a + up b)
 dif_size a b = one_side (a -ℤ b) (up a + down b) (down a + up b) (difℤ a b)
 
-pub gap_fits : {w : Width} (a b : ℕ) → a < 2 ^ hbits w → b ≤ 2 ^ hbits w → SFits w (pos a -ℤ pos b)
-unfolding up down
-gap_fits a b h k =
-    let s = dif_size (pos a) (pos b) in fits (pos a -ℤ pos b) (omega (arith, s.0)) (omega (arith, s.1))
-
 -- ---- products
 
 abs_neg : (n : ℕ) → nat_abs (neg_ℤ (pos n)) ≡ n

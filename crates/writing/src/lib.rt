@@ -1,9 +1,7 @@
 // A writer for each record of a plan: its bytes are laid over the lent buffer at a place.
 #![tactic(auto)]
 
-ghost use Rattle.std.specs.Prelude.{◌≡◌, [], ◌∷◌, ◌+◌, ◌≤◌, length, pos, nat_abs, ◌≤ℤ◌};
-ghost use Rattle.words.specs.Words.{residue};
-ghost use Rattle.records.specs.Records.{low, high};
+ghost use Rattle.std.specs.Prelude.{◌≡◌, ◌+◌, ◌≤◌, length, pos, nat_abs, ◌≤ℤ◌};
 ghost use Rattle.plans.specs.Plan.{head_bytes, unit_bytes, node_bytes, switch_bytes, loop_wire_bytes};
 ghost use Rattle.writing.specs.Laid.{laid};
 

@@ -7,15 +7,15 @@ use Rattle.drawing.proofs.UnitLaws.{held_so, slots_counted}
 use Rattle.drawing.proofs.WholePlan.{plan_laid}
 use Rattle.drawing.proofs.write_plan.Goals as goal
 
-pub slots_of-slots-requires : goal.slots_of-slots-requires
-slots_of-slots-requires c =
+pub invariant_of-slots : goal.invariant_of-slots
+invariant_of-slots c =
     let s = c.args.sheet.now in
-    held_so s.b.now s.head s.fine
+    record { held = rw (c.whole-whole.ensures.b_is, c.whole-whole.ensures.head_is) (held_so s.b.now s.head s.fine) }
 
 pub write_units-requires-clause-counted : goal.write_units-requires-clause-counted
 write_units-requires-clause-counted c =
     let s = c.args.sheet.now in
-    slots_counted s.b.now s.head s.fine c.slots_of-slots.result c.slots_of-slots.ensures
+    slots_counted s.b.now s.head s.fine c.slots-slots.result (rw (c.whole-whole.ensures.b_is, c.whole-whole.ensures.head_is) at c.slots-slots.ensures)
 
 pub returns : goal.returns
 returns c =

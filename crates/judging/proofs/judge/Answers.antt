@@ -4,8 +4,10 @@ use Rattle.words.specs.Loops.{◌then◌}
 use Rattle.records.specs.Answers.{front_fault}
 use Rattle.records.proofs.AnswerLaws.{got_none}
 use Rattle.plans.specs.Plan.{plan_format, plan_read}
-use Rattle.judging.specs.Answers.{head_fault, switches_fault, nodes_fault, HeaderSaid}
+use Rattle.plans.proofs.WholeLaws.{counted_so}
+use Rattle.judging.specs.Answers.{head_fault, switches_fault, nodes_fault, HeaderSaid, Fronted}
 use Rattle.judging.proofs.PartLaws.{head_refused, head_got, front_refused, rest_refused, all_passed, fronted}
+use Rattle.judging.proofs.SwitchLaws.{counts_of}
 use Rattle.judging.proofs.judge.Goals as goal
 use Rattle.judging.proofs.judge.Goals.{In_ok-p, In_ok-judge_front}
 
@@ -29,8 +31,15 @@ returns-in_err-judge_front c =
 clear : (c : In_ok-judge_front) → front_fault plan_format c.args.b.now ≡ 0
 clear c = (got_none tt _ (front_fault plan_format c.args.b.now) (sym c.judge_front.ensures ∙ c.in_ok-judge_front.was)).0
 
+front : (c : In_ok-judge_front) → Fronted c.args.b.now c.in_ok-p.p
+front c = fronted _ _ (head_got _ c.in_ok-p.p (sym c.read_header.ensures ∙ c.in_ok-p.was)).1 (clear c)
+
+pub invariant_of-judge_rest : goal.invariant_of-judge_rest
+invariant_of-judge_rest c =
+    let f = front (goal.at.invariant_of-judge_rest c).In_ok-judge_front in record { whole = f.whole; counted = counted_so _ _ f.whole (counts_of _ _ f) }
+
 pub judge_rest-requires : goal.judge_rest-requires
-judge_rest-requires c = fronted _ _ (said (goal.at.judge_rest-requires c).In_ok-p).1 (clear c)
+judge_rest-requires c = front (goal.at.judge_rest-requires c).In_ok-judge_front
 
 pub returns-in_err-judge_rest : goal.returns-in_err-judge_rest
 returns-in_err-judge_rest c =

@@ -9,13 +9,13 @@ use Rattle.judging.proofs.FeedLaws.{fed_is}
 use Rattle.judging.proofs.judge_inputs.Goals as goal
 use Rattle.judging.proofs.judge_inputs.Goals.{After-once, After-figures_right}
 
-fed : (c : After-once) → fed_fault (plan_read c.args.b.now) ≡ unless c.once.result 5
+fed : (c : After-once) → fed_fault (plan_read c.args.plan.now.b.now) ≡ unless c.once.result 5
 fed c =
     let a = c.args in
     fed_is _ _ c.requires.held a.occupied.now c.requires.occupied a.joined.now.fed c.requires.joins.fed_so c.unit_run.result c.unit_run.ensures
     ∙ ap (λ (t : Bool). unless t 5) (sym c.once.ensures)
 
-figures : (c : After-figures_right) → figures_fault (plan_read c.args.b.now) ≡ unless c.figures_right.result 9
+figures : (c : After-figures_right) → figures_fault (plan_read c.args.plan.now.b.now) ≡ unless c.figures_right.result 9
 unfolding figures_fault
 figures c = ap (λ (t : Bool). unless t 9) (sym c.figures_right.ensures)
 

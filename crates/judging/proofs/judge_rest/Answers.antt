@@ -10,7 +10,7 @@ use Rattle.judging.proofs.SwitchLaws.{slots_occupied, clash_by_masks}
 use Rattle.judging.proofs.judge_rest.Goals as goal
 use Rattle.judging.proofs.judge_rest.Goals.{After-slots_of-slots, In_ok-joined}
 
-occupied_by : (c : After-slots_of-slots) → Occupied (plan_read c.args.b.now) c.slots_of-slots.result.occupied
+occupied_by : (c : After-slots_of-slots) → Occupied (plan_read c.args.plan.now.b.now) c.slots_of-slots.result.occupied
 occupied_by c = slots_occupied _ _ c.requires.whole c.slots_of-slots.result c.slots_of-slots.ensures (search rules)
 
 pub join_switches-requires-clause-occupied : goal.join_switches-requires-clause-occupied
@@ -18,15 +18,15 @@ join_switches-requires-clause-occupied c = occupied_by (goal.at.join_switches-re
 
 pub returns-in_err-joined : goal.returns-in_err-joined
 returns-in_err-joined c =
-    let b = c.args.b.now in
+    let b = c.args.plan.now.b.now in
     let why : c.from_residual.result ≡ Err c.in_err-joined.field-0.0 = search rules in
     why ∙ sym (refused_first tt tt (switches_fault b) (nodes_fault (plan_read b)) _ (c.join_switches.ensures.refused _ c.in_err-joined.was))
 
 -- the switches have no fault
-clear : (c : In_ok-joined) → (switches_fault c.args.b.now ≡ 0) × Joins (plan_read c.args.b.now) c.args.p.wires c.in_ok-joined.joined
+clear : (c : In_ok-joined) → (switches_fault c.args.plan.now.b.now ≡ 0) × Joins (plan_read c.args.plan.now.b.now) c.args.plan.now.head.wires c.in_ok-joined.joined
 clear c = c.join_switches.ensures.joins _ c.in_ok-joined.was
 
-clash_is : (c : In_ok-joined) → clash_fault (plan_read c.args.b.now) ≡ unless (not c.slots_of-slots.result.clash) 4
+clash_is : (c : In_ok-joined) → clash_fault (plan_read c.args.plan.now.b.now) ≡ unless (not c.slots_of-slots.result.clash) 4
 clash_is c = clash_by_masks _ _ c.requires.whole c.slots_of-slots.result c.slots_of-slots.ensures
 
 pub returns-then-slots : goal.returns-then-slots

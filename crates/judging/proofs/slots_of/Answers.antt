@@ -13,18 +13,18 @@ use Rattle.judging.proofs.slots_of.Goals as goal
 
 pub slots_in-requires : goal.slots_in-requires
 slots_in-requires c =
-    let b = c.args.b.now in
+    let b = c.args.plan.now.b.now in
     let w = c.requires.whole in
     let r = c.node_run.result in
     let n = ap (λ (r : Run). r.count) c.node_run.ensures in record {
       inside = node_room _ _ w r c.node_run.ensures;
-      by_index = λ x l. let k : x < c.args.p.nodes = omega arith in
-          subst⁻¹ Masked (node_got _ _ w r c.node_run.ensures x k) (node_masked b c.args.p c.requires x (omega (arith, nodes_so _ _ w)));
+      by_index = λ x l. let k : x < c.args.plan.now.head.nodes = omega arith in
+          subst⁻¹ Masked (node_got _ _ w r c.node_run.ensures x k) (node_masked b c.args.plan.now.head c.requires x (omega (arith, nodes_so _ _ w)));
     }
 
 pub returns : goal.returns
 returns c =
     let r = c.node_run.result in
     let n = ap (λ (r : Run). r.count) c.node_run.ensures in
-    let got = subst (λ (k : ℕ). SlotsOf k (nodes_in_run c.args.b.now r) c.slots_in.result) n c.slots_in.ensures in
+    let got = subst (λ (k : ℕ). SlotsOf k (nodes_in_run c.args.plan.now.b.now r) c.slots_in.result) n c.slots_in.ensures in
     slots_same _ _ _ _ (λ x l. node_got _ _ c.requires.whole r c.node_run.ensures x l) got

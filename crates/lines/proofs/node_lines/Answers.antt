@@ -14,5 +14,5 @@ pub loop-i-preserved : goal.loop-i-preserved
 loop-i-preserved c =
     let l = c.loop-i in
     let test = c.loop-i-test.true in
-    let read = ap (λ (o : ℕ). node_line l.i (plan_node_at c.args.b.now o)) c.node_place.ensures ∙ sym (ap (node_line l.i) (node_so _ _ c.requires.whole l.i test)) in
+    let read = ap (λ (o : ℕ). node_line l.i (plan_node_at c.args.plan.now.b.now o)) c.node_place.ensures ∙ sym (ap (node_line l.i) (node_so _ _ c.args.plan.now.whole l.i test)) in
     lines_more _ _ read l.invariant c.node_line.ensures

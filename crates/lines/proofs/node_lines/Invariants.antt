@@ -7,4 +7,4 @@ use Rattle.numerals.specs.Written.{Written}
 use Rattle.lines.proofs.node_lines.Given as goal
 
 abbrev pub invariant-loop-i : goal.invariant-loop-i
-invariant-loop-i l = Written (line_most * l.i) l.initial.text (joined l.i (node_lines (plan_read l.b))) l.text
+invariant-loop-i l = Written (line_most * l.i) l.initial.text (joined l.i (node_lines (plan_read l.plan.b.now))) l.text

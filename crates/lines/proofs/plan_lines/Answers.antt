@@ -9,5 +9,6 @@ use Rattle.lines.proofs.plan_lines.Goals as goal
 pub returns : goal.returns
 returns c =
     let lines = written_then c.head_line.ensures (written_then c.unit_lines.ensures (written_then c.node_lines.ensures c.switch_lines.ensures)) in
-    let all = written_within (128 * (1 + c.args.p.units + c.args.p.nodes + c.args.p.wires)) (omega arith) (rw (text_so _ _ c.requires) at lines) in
+    let p = c.args.plan.now in
+    let all = written_within (128 * (1 + p.head.units + p.head.nodes + p.head.wires)) (omega arith) (rw (text_so _ _ p.whole) at lines) in
     written_out c.new-text.ensures.begins (search rules) all

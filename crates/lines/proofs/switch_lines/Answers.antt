@@ -14,5 +14,5 @@ pub loop-i-preserved : goal.loop-i-preserved
 loop-i-preserved c =
     let l = c.loop-i in
     let test = c.loop-i-test.true in
-    let read = ap (λ (o : ℕ). switch_line l.i (switch_at c.args.b.now o)) c.switch_place.ensures ∙ sym (ap (switch_line l.i) (switch_so _ _ c.requires.whole l.i test)) in
+    let read = ap (λ (o : ℕ). switch_line l.i (switch_at c.args.plan.now.b.now o)) c.switch_place.ensures ∙ sym (ap (switch_line l.i) (switch_so _ _ c.args.plan.now.whole l.i test)) in
     lines_more _ _ read l.invariant c.switch_line.ensures

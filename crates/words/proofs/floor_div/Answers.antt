@@ -1,6 +1,6 @@
 -- `words::floor_div` meets its contract: −1 − d and its quotient are no further from 0 than d, so each step fits, and the
 -- mirrored quotient is the floor. Assumes nothing.
-use Rattle.std.proofs.Common.{◌≡◌, pos, negsuc, ◌-ℤ◌, arith, w32, SFits, to_z, rules}
+use Rattle.std.proofs.Common.{◌≡◌, pos, negsuc, ◌-ℤ◌, arith, w32, SFits, to_z}
 use lib.Signed.{quot_z}
 use mir.ValLaws.{to_z-of_z, to_z_pos, sfits_le}
 use Rattle.words.specs.Words.{floor}

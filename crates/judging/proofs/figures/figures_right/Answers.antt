@@ -11,7 +11,6 @@ use Rattle.plans.proofs.WholeLaws.{units_so}
 use Rattle.judging.specs.Answers.{unit_right}
 use Rattle.judging.proofs.FigureLaws.{figures_of}
 use Rattle.judging.proofs.figures.figures_right.Goals as goal
-use Rattle.judging.proofs.figures.figures_right.Goals.{In-loop-q}
 
 pub loop-q-init : goal.loop-q-init
 unfolding every
@@ -19,11 +18,11 @@ loop-q-init c = refl
 
 pub unit_right-requires-clause-unit_figures : goal.unit_right-requires-clause-unit_figures
 unit_right-requires-clause-unit_figures c =
-    figures_of c.args.b.now c.args.p c.requires.held c.args.taps c.args.occupied.now c.requires.taps_of c.requires.occupied c.loop-q.q (omega arith)
+    figures_of c.args.plan.now.b.now c.args.plan.now.head c.requires.held c.args.taps c.args.occupied.now c.requires.taps_of c.requires.occupied c.loop-q.q (omega arith)
 
 pub returns-then-not-unit_right : goal.returns-then-not-unit_right
 unfolding figures_right
-returns-then-not-unit_right c = sym (every_stop _ c.loop-q.q (unit_right (plan_read c.args.b.now)) (omega (arith, units_so _ _ c.requires.held.front.whole)) (sym c.unit_right.ensures ∙ c.if-not-unit_right.true))
+returns-then-not-unit_right c = sym (every_stop _ c.loop-q.q (unit_right (plan_read c.args.plan.now.b.now)) (omega (arith, units_so _ _ c.requires.held.front.whole)) (sym c.unit_right.ensures ∙ c.if-not-unit_right.true))
 
 pub loop-q-preserved : goal.loop-q-preserved
 loop-q-preserved c = every_more _ _ c.loop-q.invariant (sym c.unit_right.ensures ∙ c.if-not-unit_right.false)
@@ -32,5 +31,5 @@ pub returns : goal.returns
 unfolding figures_right
 returns c =
     let l = c.loop-q in
-    let all : l.q ≡ length (plan_read c.args.b.now).units = omega (arith, units_so _ _ c.requires.held.front.whole) in
-    sym (ap (λ (n : ℕ). every n (unit_right (plan_read c.args.b.now))) (sym all) ∙ l.invariant)
+    let all : l.q ≡ length (plan_read c.args.plan.now.b.now).units = omega (arith, units_so _ _ c.requires.held.front.whole) in
+    sym (ap (λ (n : ℕ). every n (unit_right (plan_read c.args.plan.now.b.now))) (sym all) ∙ l.invariant)

@@ -6,4 +6,4 @@ use Rattle.judging.specs.Answers.{unit_right}
 use Rattle.judging.proofs.figures.figures_right.Given as goal
 
 abbrev pub invariant-loop-q : goal.invariant-loop-q
-invariant-loop-q l = every l.q (unit_right (plan_read l.b)) ≡ true
+invariant-loop-q l = every l.q (unit_right (plan_read l.plan.b.now)) ≡ true

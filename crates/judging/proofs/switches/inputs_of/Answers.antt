@@ -13,4 +13,4 @@ pub loop-q-preserved : goal.loop-q-preserved
 loop-q-preserved c =
     let l = c.loop-q in
     let kind = c.inputs.ensures ∙ ap (λ (u : Unit). inputs u.kind) (c.unit_in-unit.ensures ∙ unit_got _ _ c.requires.whole c.unit_run.result c.unit_run.ensures l.q (omega arith)) in
-    (simp length-set l.invariant.0, inputs_more (plan_read c.args.b.now) l.q c.inputs.result l.inputs l.invariant.1 (omega (arith, l.invariant.0, (counts_of c.args.b.now c.args.p c.requires).units_most, units_so c.args.b.now c.args.p c.requires.whole, units_read c.args.b.now)) kind)
+    (simp length-set l.invariant.0, inputs_more (plan_read c.args.plan.now.b.now) l.q c.inputs.result l.inputs l.invariant.1 (omega (arith, l.invariant.0, (counts_of c.args.plan.now.b.now c.args.plan.now.head c.requires).units_most, units_so c.args.plan.now.b.now c.args.plan.now.head c.requires.whole, units_read c.args.plan.now.b.now)) kind)

@@ -5,4 +5,4 @@ use Rattle.judging.specs.Answers.{InputsOf}
 use Rattle.judging.proofs.switches.inputs_of.Given as goal
 
 abbrev pub invariant-loop-q : goal.invariant-loop-q
-invariant-loop-q l = (length l.inputs ≡ 8) × InputsOf (plan_read l.b) l.q l.inputs
+invariant-loop-q l = (length l.inputs ≡ 8) × InputsOf (plan_read l.plan.b.now) l.q l.inputs

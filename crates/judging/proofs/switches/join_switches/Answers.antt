@@ -28,11 +28,11 @@ ok_same e = cc
 
 pub loop-e-init : goal.loop-e-init
 unfolding first
-loop-e-init c = (refl, rw c.none.ensures (feeding_none _), refl, taps_none (plan_read c.args.b.now) _ refl)
+loop-e-init c = (refl, rw c.none.ensures (feeding_none _), refl, taps_none (plan_read c.args.plan.now.b.now) _ refl)
 
 pub returns-in_default : goal.returns-in_default
 returns-in_default c =
-    let b = c.args.b.now in
+    let b = c.args.plan.now.b.now in
     let here = sym c.read_switch-got.ensures ∙ c.unwrap_err.ensures in
     let hit = first_hit (wires_in b) c.loop-e.e (switch_fault b) (omega (arith, wires_so _ _ c.requires.fronted.whole, switches_read b)) c.loop-e.invariant.0 (refused_some _ _ _ here) in
     record {
@@ -41,9 +41,9 @@ returns-in_default c =
     }
 
 -- the switch that the reader got
-got : (c : In-Ok) → GotSwitch c.args.b.now c.loop-e.e c.in-Ok.joint
+got : (c : In-Ok) → GotSwitch c.args.plan.now.b.now c.loop-e.e c.in-Ok.joint
 got c =
-    switch_got c.args.b.now c.args.p c.requires.fronted c.loop-e.e (omega arith) c.in-Ok.joint (sym c.read_switch-got.ensures ∙ c.in-Ok.is)
+    switch_got c.args.plan.now.b.now c.args.plan.now.head c.requires.fronted c.loop-e.e (omega arith) c.in-Ok.joint (sym c.read_switch-got.ensures ∙ c.in-Ok.is)
 
 -- the input that it feeds has room in the masks
 pub feed-requires : goal.feed-requires
@@ -61,22 +61,22 @@ loop-e-preserved c =
       first_more _ _ c.loop-e.invariant.0 g.faultless,
       rw (c.feed.ensures, c.input_of.ensures ∙ g.input_is) (feeding_more _ c.loop-e.e c.loop-e.joined.fed c.loop-e.invariant.1 g.masked),
       simp length-set c.loop-e.invariant.2,
-      taps_more (plan_read c.args.b.now) c.loop-e.e c.loop-e.joined.taps c.loop-e.invariant.3 c.loop-e.invariant.2 _ g.source_is (omega (arith, g.few)) c.tap_of.result c.max.result
-          c.tap_of.ensures (ap (λ (x : Cycles). x.0) c.max.ensures ∙ larger_is (get_or c.loop-e.joined.taps c.in-Ok.joint.source no_cycles) c.tap_of.result),
+      taps_more (plan_read c.args.plan.now.b.now) c.loop-e.e c.loop-e.joined.taps c.loop-e.invariant.3 c.loop-e.invariant.2 _ g.source_is (omega (arith, g.few)) c.tap.result c.max.result
+          c.tap.ensures (ap (λ (x : Cycles). x.0) c.max.ensures ∙ larger_is (get_or c.loop-e.joined.taps c.in-Ok.joint.source no_cycles) c.tap.result),
     )
 
 pub returns : goal.returns
 returns c =
-    let b = c.args.b.now in
-    let all : c.loop-e.e ≡ c.args.p.wires = omega arith in
+    let b = c.args.plan.now.b.now in
+    let all : c.loop-e.e ≡ c.args.plan.now.head.wires = omega arith in
     let end : c.loop-e.e ≡ wires_in b = omega (arith, wires_so _ _ c.requires.fronted.whole, switches_read b) in
     let none = rw end at c.loop-e.invariant.0 in
-    let h = held b c.args.p c.requires.fronted none in
-    let joins : Joins (plan_read b) c.args.p.wires c.loop-e.joined = record {
-      fed_so = feeding_fed _ _ _ (λ i k. input_masked b c.args.p h i (omega (arith, wires_so _ _ c.requires.fronted.whole))) (rw all at c.loop-e.invariant.1);
+    let h = held b c.args.plan.now.head c.requires.fronted none in
+    let joins : Joins (plan_read b) c.args.plan.now.head.wires c.loop-e.joined = record {
+      fed_so = feeding_fed _ _ _ (λ i k. input_masked b c.args.plan.now.head h i (omega (arith, wires_so _ _ c.requires.fronted.whole))) (rw all at c.loop-e.invariant.1);
       taps_so = subst (λ (n : ℕ). TapsOf (plan_read b) n c.loop-e.joined.taps) all c.loop-e.invariant.3;
     } in
     record {
       refused = λ why e. search rules;
-      joins = λ j e. (none, subst (Joins (plan_read b) c.args.p.wires) (ok_same e) joins);
+      joins = λ j e. (none, subst (Joins (plan_read b) c.args.plan.now.head.wires) (ok_same e) joins);
     }

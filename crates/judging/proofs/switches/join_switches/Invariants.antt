@@ -7,4 +7,4 @@ use Rattle.judging.specs.Answers.{switch_fault, input_of, TapsOf}
 use Rattle.judging.proofs.switches.join_switches.Given as goal
 
 abbrev pub invariant-loop-e : goal.invariant-loop-e
-invariant-loop-e l = (first l.e (switch_fault l.b) ≡ 0) × Feeding (input_of (plan_read l.b)) l.e l.joined.fed × (length l.joined.taps ≡ 8) × TapsOf (plan_read l.b) l.e l.joined.taps
+invariant-loop-e l = (first l.e (switch_fault l.plan.b.now) ≡ 0) × Feeding (input_of (plan_read l.plan.b.now)) l.e l.joined.fed × (length l.joined.taps ≡ 8) × TapsOf (plan_read l.plan.b.now) l.e l.joined.taps

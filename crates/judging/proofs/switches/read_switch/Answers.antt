@@ -3,24 +3,22 @@ use Rattle.std.proofs.Common.{◌≡◌, Ok, refl, sym, ap, ◌∙◌}
 use Rattle.records.specs.Records.{marked, wire_place}
 use Rattle.records.specs.Answers.{reason_of}
 use Rattle.plans.specs.Plan.{switch_in, plan_format, plan_read}
-use Rattle.plans.specs.Heads.{joint_at}
 use Rattle.plans.specs.Judging.{switch_fits}
 use Rattle.judging.specs.Answers.{switch_fault}
-use Rattle.judging.proofs.RunLaws.{switch_marked, switch_place_said}
+use Rattle.judging.proofs.RunLaws.{switch_marked}
 use Rattle.judging.proofs.SwitchLaws.{fits_so, joint_fits}
 use Rattle.judging.proofs.switches.read_switch.Goals as goal
 use Rattle.judging.proofs.switches.read_switch.Goals.{After-marked, After-switch_fits}
 
 -- whether it bears its mark, and whether it fits, as they are read
-right : (c : After-marked) → let b = c.args.b.now in marked b (wire_place plan_format b c.args.e) plan_format.wire_mark ≡ c.marked.result
+right : (c : After-marked) → let b = c.args.plan.now.b.now in marked b (wire_place plan_format b c.args.e) plan_format.wire_mark ≡ c.marked.result
 right c = sym (c.marked.ensures ∙ switch_marked _ _ c.requires.fronted.whole c.switch_run.result c.switch_run.ensures c.args.e)
 
-fits : (c : After-switch_fits) → let p = plan_read c.args.b.now in switch_fits p (switch_in p c.args.e) ≡ c.switch_fits.result
+fits : (c : After-switch_fits) → let p = plan_read c.args.plan.now.b.now in switch_fits p (switch_in p c.args.e) ≡ c.switch_fits.result
 fits c =
     let a = c.args in
     let f = c.requires.fronted in
-    let joint = c.joint_at-joint.ensures ∙ ap (joint_at a.b.now) c.switch_place.ensures in
-    sym (c.switch_fits.ensures ∙ fits_so _ _ f a.occupied.now a.inputs.now c.requires.occupied c.requires.inputs_of c.joint_at-joint.result ∙ joint_fits _ _ f a.e c.requires.e_lt_wires c.joint_at-joint.result joint)
+    sym (c.switch_fits.ensures ∙ fits_so _ _ f a.occupied.now a.inputs.now c.requires.occupied c.requires.inputs_of c.joint-joint.result ∙ joint_fits _ _ f a.e c.requires.e_lt_wires c.joint-joint.result c.joint-joint.ensures)
 
 pub returns-then-not-marked : goal.returns-then-not-marked
 unfolding switch_fault reason_of
@@ -34,5 +32,4 @@ returns-then-not-switch_fits c =
 pub returns : goal.returns
 unfolding switch_fault
 returns c =
-    let joint = c.joint_at-joint.ensures ∙ ap (joint_at c.args.b.now) (c.switch_place.ensures ∙ switch_place_said _ _ c.requires.fronted.whole c.args.e) in
-    rw (right (goal.at.returns c).After-marked ∙ c.if-not-marked.false, fits (goal.at.returns c).After-switch_fits ∙ c.if-not-switch_fits.false) (ap Ok joint)
+    rw (right (goal.at.returns c).After-marked ∙ c.if-not-marked.false, fits (goal.at.returns c).After-switch_fits ∙ c.if-not-switch_fits.false) (ap Ok c.joint-joint.ensures)

@@ -7,4 +7,4 @@ use Rattle.memory.specs.Memory.{base}
 use Rattle.memory.proofs.FinePlan.lines.Given as goal
 
 abbrev pub invariant-loop-q : goal.invariant-loop-q
-invariant-loop-q l = (l.words ≡ suc (base (plan_read l.self.b.now) l.q)) × ((k : ℕ) → k < l.q → get_or l.at k 0 ≡ suc (base (plan_read l.self.b.now) k)) × (l.words ≤ 1 + l.q * 4294967295) × (length l.at ≡ 8)
+invariant-loop-q l = (l.words ≡ suc (base (plan_read l.self.b.now) l.q)) × ((k : ℕ) → k < l.q → get_or l.at k 0 ≡ suc (base (plan_read l.self.b.now) k)) × (l.words ≤ 1 + l.q * 65790) × (length l.at ≡ 8)

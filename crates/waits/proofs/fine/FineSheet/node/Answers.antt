@@ -5,4 +5,4 @@ use Rattle.waits.proofs.fine.FineSheet.node.Goals as goal
 pub returns-clause-on_unit : goal.returns-clause-on_unit
 returns-clause-on_unit c =
     let s = c.args.self.now in
-    rw c.node_of.ensures (on_unit_so s.b.now s.head s.fine c.args.x c.requires)
+    rw (c.node.ensures, c.whole.ensures.b_is) (on_unit_so s.b.now s.head s.fine c.args.x c.requires)
