@@ -23,6 +23,7 @@ const STEP: u32 = 3816266640;
 // A case: what is called, how often, how much is lent, the count, and the bytes.
 #[derive(Clone, Copy)]
 struct Case<'a> {
+    // A letter of the stored cases, as tests/README.md has it.
     sort: u8,
     steps: u8,
     room: usize,
