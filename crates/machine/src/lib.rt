@@ -11,7 +11,7 @@ ghost use Rattle.machine.specs.declared.NotStepped.TheVariants as S;
 
 use cycle::results;
 use judging::judge;
-use memory::{FinePlan, Lines};
+use memory::FinePlan;
 use moving::{advance, leave, wipe};
 use records::Unit;
 use records::answers::Refusal;
@@ -74,20 +74,20 @@ impl Refusal for NotStepped {
     }
 }
 
-// The lines of the plan that the bytes are.
-fn lines_of(plan: &[u8]) -> Result<Lines<'_>, Reason>
-    ensures got { IfOk result (λ l. l.plan.b.now ≡ plan.now) }
+// The plan that the bytes are.
+fn judged(plan: &[u8]) -> Result<FinePlan<'_>, Reason>
+    ensures got { IfOk result (λ p. p.b.now ≡ plan.now) }
     ensures refused { IfErr result (λ why. plan_answer plan.now ≡ Err why) }
 {
     let head = judge(plan)?;
-    Ok(FinePlan { b: plan, head }.lines())
+    Ok(FinePlan { b: plan, head })
 }
 
 // All words of the plan's memory become 0.
 pub fn clear(plan: &[u8], memory: &mut [u32]) -> Result<(), NotCleared>
     ensures { Clearing plan.now memory.old (cleared_number result) memory.new }
 {
-    let words = lines_of(plan)?.words;
+    let words = judged(plan)?.lines().words;
     if memory.len() < words {
         return Err(NotCleared::Short);
     }
@@ -105,7 +105,7 @@ pub fn step(
 ) -> Result<(), NotStepped>
     ensures { Stepping plan.now memory.old channels.now out.old (stepped_number result) memory.new out.new }
 {
-    let lines = lines_of(plan)?;
+    let lines = judged(plan)?.lines();
     if memory.len() < lines.words {
         return Err(NotStepped::Short);
     }
@@ -128,5 +128,5 @@ pub fn step(
 pub fn memory_words(plan: &[u8]) -> Result<usize, Reason>
     ensures { Needing plan.now (needed_number result) (needed_words result) }
 {
-    Ok(lines_of(plan)?.words)
+    Ok(judged(plan)?.lines().words)
 }
