@@ -29,6 +29,12 @@ module _ (g : Net) (choices : List ℕ) (n : ℕ) where
       ∙ append_assoc (take i walk) (c ∷ []) (back g choices (n - 1 - i) (g.to c))
       ∙ ap (λ (k : ℕ). take i walk ++ back g choices k u) (let e : suc (n - 1 - i) ≡ n - i = omega arith in e)
 
+  -- wire i walked, and what is left followed back from u', the node that it meets
+  pub back_on : (i u u' : ℕ) (walk whole : List ℕ) → i < n → i < length walk → u' ≡ g.to (get_or choices (most_nodes * (n - 1 - i) + u) 0) →
+      Backed g choices (n - i) u × (take i walk ++ back g choices (n - i) u ≡ whole) →
+      Backed g choices (n - (i + 1)) u' × (take (i + 1) (set walk i (get_or choices (most_nodes * (n - 1 - i) + u) 0)) ++ back g choices (n - (i + 1)) u' ≡ whole)
+  back_on i u u' walk whole h l e p = rw e (onward i u h p.0, back_more i u walk h l ∙ p.1)
+
   pub back_done : (i u : ℕ) (walk whole : List ℕ) → i ≡ n → take i walk ++ back g choices (n - i) u ≡ whole → take n walk ≡ whole
   unfolding back
   back_done i u walk whole e h =
