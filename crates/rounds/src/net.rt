@@ -25,9 +25,9 @@ impl Net<'_> {
     ghost use Rattle.rounds.specs.NetOf.{net_of};
 
     // Where a wire's record has its two ends.
-    const FROM: usize = 2;
+    pub const FROM: usize = 2;
 
-    const TO: usize = 3;
+    pub const TO: usize = 3;
 
     // The node that wire e leaves. The two ends have the paper's names: one function for both would ask for a side.
     pub fn from(&self, e: usize) -> usize
