@@ -35,8 +35,8 @@ pub enum NoText {
 impl From<Reason> for NoText {
     ghost from_gives = { λ why e. e ≡ N.Refused why };
 
-    fn from(why: Reason) -> Self {
-        Self::Refused(why)
+    fn from(why: Reason) -> NoText {
+        NoText::Refused(why)
     }
 }
 
