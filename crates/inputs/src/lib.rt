@@ -20,7 +20,7 @@ fn source_of(plan: &FinePlan, e: usize) -> usize
     usize::from(plan.b[plan.head.switch_place(e) + 5])
 }
 
-// The place in memory that switch e reads; the source's places begin at `from`.
+// The place in memory that switch e reads, counted from where its source's places begin.
 fn place_of(lines: &Lines, e: usize) -> usize
     requires { e < lines.now.plan.head.wires }
     ensures { (result ≡ tapped_place (plan_read lines.now.plan.b.now) e) × (result < lines.now.words) }
