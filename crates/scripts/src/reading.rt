@@ -1,5 +1,5 @@
 // The commands of a script, read one field after the other, and the text that they stand in. Beyond the end all bytes are 0.
-ghost use Rattle.std.specs.Prelude.{◌≤◌, IfOk, length};
+ghost use Rattle.std.specs.Prelude.{◌≡◌, ◌≤◌, IfOk, length, take, drop};
 
 use std::io;
 use std::io::Read;
@@ -88,16 +88,22 @@ impl<'a> Script<'a> {
 }
 
 // The first n bytes or words of a slice, or all.
-pub fn front<T>(items: &[T], n: usize) -> &[T] {
+pub fn front<T>(items: &[T], n: usize) -> &[T]
+    ensures { result.now ≡ take n items.now }
+{
     &items[..n.min(items.len())]
 }
 
-pub fn front_mut<T>(items: &mut [T], n: usize) -> &mut [T] {
+pub fn front_mut<T>(items: &mut [T], n: usize) -> &mut [T]
+    ensures { result.now ≡ take n items.old }
+{
     let end = n.min(items.len());
     &mut items[..end]
 }
 
 // What stands behind the first n bytes.
-pub fn behind(bytes: &[u8], n: usize) -> &[u8] {
+pub fn behind(bytes: &[u8], n: usize) -> &[u8]
+    ensures { result.now ≡ drop n bytes.now }
+{
     &bytes[n.min(bytes.len())..]
 }
