@@ -18,10 +18,10 @@ fn print_bound(rt: &impl Print, bound: Iterations) -> io::Result<()>
     requires { SFits w32 (pos 0 -ℤ bound.0) }
 {
     if bound < Iterations::ZERO {
-        let distance = (Iterations::ZERO - bound).field();
+        let distance = u16::from_le_bytes((Iterations::ZERO - bound).bytes());
         println!(rt; "-{distance}")
     } else {
-        let distance = bound.field();
+        let distance = u16::from_le_bytes(bound.bytes());
         println!(rt; "{distance}")
     }
 }

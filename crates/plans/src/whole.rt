@@ -7,7 +7,6 @@ ghost use Rattle.plans.specs.Plan.{unit_in, node_in, switch_in, plan_format, pla
 ghost use Rattle.plans.specs.Heads.{joint_at, Counted, Whole};
 
 use crate::{Joint, Plan};
-use records::reading::two_at;
 use times::{Cycles, Iterations};
 
 // Bytes with the header that they say, and no byte more or less than it says.
@@ -31,7 +30,8 @@ impl WholePlan<'_> {
         ensures is { result.0 ≡ pos (unit_in (plan_read self.now.b.now) q).line }
         ensures few { nat_abs result.0 < 65536 }
     {
-        Cycles::from(two_at(self.b, self.head.unit_place(q) + 4))
+        let at = self.head.unit_place(q);
+        Cycles::from([self.b[at + 4], self.b[at + 5]])
     }
 
     // Its idle count.
@@ -47,7 +47,8 @@ impl WholePlan<'_> {
         requires { x < self.now.head.nodes }
         ensures { result.0 ≡ pos (node_in (plan_read self.now.b.now) x).start }
     {
-        Iterations::from(two_at(self.b, self.head.node_place(x) + 7))
+        let at = self.head.node_place(x);
+        Iterations::from([self.b[at + 7], self.b[at + 8]])
     }
 
     // What switch e joins.
@@ -69,6 +70,7 @@ impl WholePlan<'_> {
         requires { e < self.now.head.wires }
         ensures { result.0 ≡ pos (switch_in (plan_read self.now.b.now) e).tap }
     {
-        Cycles::from(two_at(self.b, self.head.switch_place(e) + 6))
+        let at = self.head.switch_place(e);
+        Cycles::from([self.b[at + 6], self.b[at + 7]])
     }
 }

@@ -1,7 +1,14 @@
--- Only passes between functions: the numbers in arrays of cycles and of iterations. Assumes nothing.
-use Rattle.std.specs.Prelude.{List, ℕ, get_or, ℤ, pos}
+-- Only passes between functions: the test that two waits are equal, and the numbers in arrays of cycles and of iterations. Assumes
+-- nothing.
+use Rattle.std.specs.Prelude.{Bool, false, List, ℕ, eqb, get_or, ℤ, pos, negsuc}
 use Rattle.times.specs.declared.Cycles.{Cycles}
 use Rattle.times.specs.declared.Iterations.{Iterations}
+
+abbrev pub eqZ : ℤ → ℤ → Bool
+eqZ (pos a) (pos b) = eqb a b
+eqZ (pos a) (negsuc b) = false
+eqZ (negsuc a) (pos b) = false
+eqZ (negsuc a) (negsuc b) = eqb a b
 
 -- the number of element i
 abbrev pub iterations_at : List Iterations → ℕ → ℤ

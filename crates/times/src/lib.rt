@@ -1,9 +1,9 @@
-// Waits in cycles and starts in iterations, two types that no operator mixes: like is added to like, and N alone turns one into
+// Waits in cycles and starts in iterations, two types that are never added: like is added to like, and N alone turns one into
 // the other. Their numbers are private: what needs one (its bytes, a place, a count of rounds) stands here. docs/DECISIONS.md says what
 // this stops and what it does not. Assumes nothing.
 #![tactic(auto)]
 
-ghost use Rattle.std.specs.Prelude.{◌≡◌, ◌+◌, ◌-◌, ◌*◌, ◌/◌, ◌%◌, ◌<◌, ltb, pos, nat_abs, ◌+ℤ◌, ◌-ℤ◌, ◌*ℤ◌, ◌≤ℤ◌};
+ghost use Rattle.std.specs.Prelude.{◌≡◌, ◌+◌, ◌-◌, ◌*◌, ◌/◌, ◌%◌, ◌<◌, ltb, [], ◌∷◌, get_or, pos, nat_abs, ◌+ℤ◌, ◌-ℤ◌, ◌*ℤ◌, ◌≤ℤ◌};
 ghost use Rattle.std.specs.Int.{w32};
 ghost use Rattle.std.proofs.Common.{SFits};
 ghost use Rattle.words.specs.Words.{floor};
@@ -18,18 +18,18 @@ pub struct Cycles(i32);
 #[derive(Clone, Copy, Debug, PartialEq, Eq, PartialOrd, Ord)]
 pub struct Iterations(i32);
 
-// The two bytes that a record has for a number.
-fn two_bytes(number: i32) -> u16
+// The two bytes that a record has for a number, the low one first.
+fn two_bytes(number: i32) -> [u8; 2]
     requires { pos 0 ≤ℤ number }
-    ensures { result ≡ nat_abs number % 65536 }
+    ensures { result ≡ nat_abs number % 256 ∷ nat_abs number / 256 % 256 ∷ [] }
 {
-    (number as u32 % 0x1_0000) as u16
+    ((number as u32 % 0x1_0000) as u16).to_le_bytes()
 }
 
-// What both types have (zero, a sum, the field of two bytes) stands twice, here and below: one trait over both would hand their
+// What both types have (zero, a sum, the two bytes) stands twice, here and below: one trait over both would hand their
 // numbers out, and the two could be mixed by it.
 impl Cycles {
-    pub const ZERO: Self = Self(0);
+    pub const ZERO: Cycles = Cycles(0);
 
     // The raw wait D = Nw − P + v − u of a wire with w delays from slot u of a unit of depth P to slot v.
     pub fn raw(fold: u8, delays: u8, depth: u8, from: u8, to: u8) -> Cycles
@@ -49,12 +49,13 @@ impl Cycles {
         Iterations(words::floor_div(self.0, fold))
     }
 
-    // The two bytes that a record has for it.
-    pub fn field(self) -> u16
+    // The two bytes that a record has for it, the low one first.
+    pub fn bytes(self) -> [u8; 2]
         requires { pos 0 ≤ℤ self.0 }
-        ensures { result ≡ nat_abs self.0 % 65536 }
+        ensures { result ≡ nat_abs self.0 % 256 ∷ nat_abs self.0 / 256 % 256 ∷ [] }
     {
-        two_bytes(self.0)
+        let Cycles(wait) = self;
+        two_bytes(wait)
     }
 
     // How many whole rounds of N cycles there are.
@@ -93,11 +94,15 @@ impl Cycles {
     }
 }
 
-impl From<u16> for Cycles {
-    ghost from_gives = { λ field r. r.0 ≡ pos field };
+// The two bytes that a record has for it, the low one first: what they say is below 65,536.
+impl From<[u8; 2]> for Cycles {
+    ghost from_gives = { λ bytes r. r.0 ≡ pos (get_or bytes 0 0 + 256 * get_or bytes 1 0) };
 
-    fn from(field: u16) -> Cycles {
-        Cycles(field as i32)
+    fn from(bytes: [u8; 2]) -> Cycles
+        ensures is { result.0 ≡ pos (get_or bytes 0 0 + 256 * get_or bytes 1 0) }
+        ensures few { nat_abs result.0 < 65536 }
+    {
+        Cycles(u16::from_le_bytes(bytes) as i32)
     }
 }
 
@@ -114,7 +119,7 @@ impl Add for Cycles {
 }
 
 impl Iterations {
-    pub const ZERO: Self = Self(0);
+    pub const ZERO: Iterations = Iterations(0);
 
     // That many iterations of N cycles each.
     pub fn cycles(self, fold: u8) -> Cycles
@@ -125,12 +130,13 @@ impl Iterations {
         Cycles(wait)
     }
 
-    // The two bytes that a record has for it.
-    pub fn field(self) -> u16
+    // The two bytes that a record has for it, the low one first.
+    pub fn bytes(self) -> [u8; 2]
         requires { pos 0 ≤ℤ self.0 }
-        ensures { result ≡ nat_abs self.0 % 65536 }
+        ensures { result ≡ nat_abs self.0 % 256 ∷ nat_abs self.0 / 256 % 256 ∷ [] }
     {
-        two_bytes(self.0)
+        let Iterations(start) = self;
+        two_bytes(start)
     }
 
     // Whether the iteration of a cycle, t div N, is below this start.
@@ -143,11 +149,12 @@ impl Iterations {
     }
 }
 
-impl From<u16> for Iterations {
-    ghost from_gives = { λ field r. r.0 ≡ pos field };
+// The two bytes that a record has for it, the low one first.
+impl From<[u8; 2]> for Iterations {
+    ghost from_gives = { λ bytes r. r.0 ≡ pos (get_or bytes 0 0 + 256 * get_or bytes 1 0) };
 
-    fn from(field: u16) -> Iterations {
-        Iterations(field as i32)
+    fn from(bytes: [u8; 2]) -> Iterations {
+        Iterations(u16::from_le_bytes(bytes) as i32)
     }
 }
 

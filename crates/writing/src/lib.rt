@@ -44,7 +44,7 @@ pub fn write_unit(out: &mut [u8], at: usize, unit: Unit, line: Cycles, idle: u8)
     requires pos_bound { pos 0 ≤ℤ line.0 }
     ensures { out.new ≡ laid out.old at (unit_bytes (record { unit = unit; line = nat_abs line.0; idle = idle })) }
 {
-    let [low, high] = line.field().to_le_bytes();
+    let [low, high] = line.bytes();
     lay(
         out,
         at,
@@ -66,7 +66,7 @@ pub fn write_node(out: &mut [u8], at: usize, node: Node, start: Iterations)
     ensures { out.new ≡ laid out.old at (node_bytes (record { node = node; start = nat_abs start.0 })) }
 {
     let [k_low, k_high] = words::to_bytes16(node.k).to_le_bytes();
-    let [low, high] = start.field().to_le_bytes();
+    let [low, high] = start.bytes();
     lay(
         out,
         at,
@@ -89,7 +89,7 @@ pub fn write_switch(out: &mut [u8], at: usize, joint: Joint, tap: Cycles)
     requires pos_bound { pos 0 ≤ℤ tap.0 }
     ensures { out.new ≡ laid out.old at (switch_bytes (record { unit = joint.unit; input = joint.input; slot = joint.slot; source = joint.source; tap = nat_abs tap.0 })) }
 {
-    let [low, high] = tap.field().to_le_bytes();
+    let [low, high] = tap.bytes();
     lay(
         out,
         at,
