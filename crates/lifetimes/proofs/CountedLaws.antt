@@ -1,6 +1,6 @@
 -- One live cycle more in its slot. Assumes nothing.
 use mathlib.Core.Path.{◌≡◌, sym, ap, ◌∙◌}
-use mathlib.Core.Bool.{cond}
+use mathlib.Core.Bool.{Bool, true, false, cond}
 use mathlib.Core.List.{List}
 use Prim.Native.Nat.{ℕ, ◌+◌, ◌%◌, ◌<◌, ◌≤◌}
 use native.Mathlib.Nat.{mod-lt, mod-eq_of_lt}
@@ -10,9 +10,9 @@ use native.Mathlib.Omega.{arith}
 use lib.Dec.{ltb, eqb}
 use lib.ListN.{length, get_or, set}
 use lib.Seq.{get_or-set_same, get_or-set_other}
-use borrow.Author.Tests.{eq-eqb, ne_eqb}
+use borrow.Author.Tests.{eq-eqb, ne_eqb, le-ltb}
 use Rattle.folding.specs.Offset.{offset}
-use Rattle.lifetimes.specs.Counts.{Counted}
+use Rattle.lifetimes.specs.Counts.{Small, Counted}
 use Rattle.folding.proofs.LiveLaws.{slot_iff, step_test}
 
 -- a count raised by one
@@ -23,6 +23,9 @@ raised l k t h = elim (ℕ_discrete k t) [
 ]
 
 module _ (n first : ℕ) (0<n : 0 < n) (n≤32 : n ≤ 32) (counts : List ℕ) where
+  pub counted_none : Counted n first 0 counts counts
+  counted_none t h = rw (le-ltb (offset n first t) 0 (omega arith)) (omega arith)
+
   pub counted_more : (i : ℕ) (live : List ℕ) → i < n → length live ≡ 32 → Counted n first i counts live →
       Counted n first (i + 1) counts (set live ((first + i) % n) (get_or live ((first + i) % n) 0 + 1))
   counted_more i live h long before t ht =
@@ -31,3 +34,11 @@ module _ (n first : ℕ) (0<n : 0 < n) (n≤32 : n ≤ 32) (counts : List ℕ) w
       raised live k t (omega (arith, mod-lt (first + i) 0<n))
       ∙ (let e : get_or live t 0 + cond (eqb k t) 1 0 ≡ get_or counts t 0 + cond (ltb (offset n first t) (i + 1)) 1 0 =
       rw (slot, add-one i) (omega (arith, before t ht, step_test i (offset n first t))) in e)
+
+  -- a slot's count fits
+  pub counted_small : (i : ℕ) (live : List ℕ) → Small n counts 1000 → Counted n first i counts live → (t : ℕ) → t < n → get_or live t 0 ≤ 1001
+  counted_small i live small c t h = elim_bit (ltb (offset n first t) i) (c t h) (small t h)
+    where
+      elim_bit : {a b : ℕ} (x : Bool) → a ≡ b + cond x 1 0 → b ≤ 1000 → a ≤ 1001
+      elim_bit true e l = omega arith
+      elim_bit false e l = omega arith

@@ -23,16 +23,17 @@ pub record Turned (g : Net) (es : List ℕ) : Type 0 where
   pub wires : es ≡ first ∷ rest
   pub loop : Loop g first rest
 
-least : (es : List ℕ) (low : ℕ) → IsFirstBest nat_lt es (length es) low → (p : ℕ) → p < length es → get_or es low 0 ≤ get_or es p 0
+-- the first of the lowest wires is no higher than any
+pub least : (es : List ℕ) (low : ℕ) → IsFirstBest nat_lt es (length es) low → (p : ℕ) → p < length es → get_or es low 0 ≤ get_or es p 0
 least es low best p h = ltb-false (get_or es p 0) (get_or es low 0) (best.1 p 0 h)
 
 module _ (g : Net) where
-  lowest_loop : (es : List ℕ) (low : ℕ) → Ring g es → IsFirstBest nat_lt es (length es) low → Turned g (drop low es ++ take low es)
-  lowest_loop es low ring lowest =
+  lowest_loop : (es : List ℕ) (low : ℕ) → Ring g es → low < length es → ((p : ℕ) → p < length es → get_or es low 0 ≤ get_or es p 0) →
+      Turned g (drop low es ++ take low es)
+  lowest_loop es low ring h lowest =
       let a = get_or es low 0 in
       let front = take low es in
       let back = drop (suc low) es in
-      let h = lowest.0 in
       let front_long : length front ≡ low = length-take-le low es (omega arith) in
       let back_long = length-drop (suc low) es in
       record {
@@ -40,8 +41,8 @@ module _ (g : Net) where
         rest = back ++ front;
         wires = ap (λ (l : List ℕ). l ++ front) (drop-cons es low 0 h);
         loop = turned_loop g front a back (subst (Ring g) (split_at es low 0 h) ring)
-            (atleast_all a front (λ p k. rw (get_or-take low es p 0 (omega arith)) (least es low lowest p (omega arith))))
-            (atleast_all a back (λ p k. rw (get_or-drop (suc low) es p 0) (least es low lowest (suc low + p) (omega arith))));
+            (atleast_all a front (λ p k. rw (get_or-take low es p 0 (omega arith)) (lowest p (omega arith))))
+            (atleast_all a back (λ p k. rw (get_or-drop (suc low) es p 0) (lowest (suc low + p) (omega arith))));
       }
 
   -- some part closes
@@ -72,5 +73,6 @@ module _ (g : Net) where
         rw (add-one span.last)
         (ring_of g cl es falling span.first span.last met.order met.within met.found met.before)
 
-    pub shown_loop : (low : ℕ) → IsFirstBest nat_lt ring (length ring) low → Turned g (drop low ring ++ take low ring)
-    shown_loop low lowest = lowest_loop ring low ring_closes lowest
+    pub shown_loop : (low : ℕ) → low < length ring → ((p : ℕ) → p < length ring → get_or ring low 0 ≤ get_or ring p 0) →
+        Turned g (drop low ring ++ take low ring)
+    shown_loop low h lowest = lowest_loop ring low ring_closes h lowest

@@ -150,3 +150,10 @@ port_k op (pos c) e h =
 port_k op (negsuc c) e h =
     let f : false ≡ true = rw e at h in
     absurd (true≢false (sym f))
+
+pub channel_below : (n : Node) → k_fits n.op n.k ≡ true → channel_of n < channels
+channel_below n h = by_op (eqb n.op op_port) refl
+  where
+    by_op : (port : Bool) → eqb n.op op_port ≡ port → channel_of n < channels
+    by_op true e = let c = port_k n.op n.k (eqb-true n.op op_port e) h in rw (e, c.1) c.2
+    by_op false e = rw e (omega arith)

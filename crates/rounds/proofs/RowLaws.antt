@@ -14,6 +14,7 @@ use Rattle.words.proofs.Ints.{up, down, ints, le_up}
 use Rattle.words.proofs.FitLaws.{fits, sum_size}
 use Rattle.words.proofs.LoopLaws.{passed?, length_tab, getD_tab}
 use Rattle.times.specs.Times.{iterations_at}
+use Rattle.records.specs.Records.{most_nodes}
 use Rattle.sheets.specs.Sheet.{most_delays}
 use Rattle.folding.specs.Walks.{Net, row, settled, foldable}
 use Rattle.folding.specs.Round.{round}
@@ -46,6 +47,17 @@ module _ {b : List ℕ} {at nodes wires : ℕ} (bounds : List Iterations) (wired
 
   pub closed : Closed g
   closed e h = (wired.leaves e h, wired.meets e h)
+
+  -- the same wires over all places of the array
+  pub wired_whole : Wired b at most_nodes wires
+  wired_whole = record {
+    some_node = omega arith;
+    few_nodes = omega arith;
+    few_wires = wired.few_wires;
+    inside = wired.inside;
+    leaves = λ e h. omega (arith, wired.leaves e h, wired.few_nodes);
+    meets = λ e h. omega (arith, wired.meets e h, wired.few_nodes);
+  }
 
   pub row_is : (k : ℕ) (l : List Iterations) → Rounded k l → row_of nodes l ≡ row g k
   row_is k l is =

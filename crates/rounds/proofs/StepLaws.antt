@@ -10,10 +10,10 @@ use Rattle.std.specs.Prelude.{Option, Some, None, is_some}
 use lib.ListN.{length, set, length-set}
 use lib.Seq.{get_or-set_same, get_or-set_other}
 use lib.IntN.{ℤ, pos, ◌+ℤ◌}
-use lib.Signed.{le_z, ◌≤ℤ◌, ◌<ℤ◌}
+use lib.Signed.{lt_z, le_z, ◌≤ℤ◌, ◌<ℤ◌}
 use borrow.Author.Tests.{eq-eqb, ne_eqb}
 use Rattle.times.specs.declared.Iterations.{Iterations}
-use Rattle.words.proofs.Ints.{ints, leZ_true, le_leZ}
+use Rattle.words.proofs.Ints.{ints, leZ_true, ltZ_false, le_leZ}
 use Rattle.words.proofs.LoopLaws.{passed?}
 use Rattle.times.specs.Times.{iterations_at}
 use Rattle.folding.specs.Walks.{Net, minℤ, better}
@@ -35,6 +35,19 @@ number_set_same l w y h = ap (λ (i : Iterations). i.0) (get_or-set_same l w y (
 
 pub number_set_other : (l : List Iterations) (w u : ℕ) (y : Iterations) → ¬ (u ≡ w) → iterations_at (set l w y) u ≡ iterations_at l u
 number_set_other l w u y h = ap (λ (i : Iterations). i.0) (get_or-set_other l w u y (record { 0 = pos 0 }) h)
+
+-- wire e, from w to v, comes to y, not below the total so far
+module _ (g : Net) (d : ℕ → ℤ) (e w v : ℕ) (y : Iterations) (leaves : w ≡ g.from e) (meets : v ≡ g.to e) (sum : y.0 ≡ g.bound e +ℤ d v)
+    (l : List Iterations) (reached : Reached g d l e) where
+  pub reached_past : lt_z y.0 (iterations_at l w) ≡ false → Reached g d l (e + 1)
+  unfolding better
+  reached_past t u = rw (add-one e) (elim (ℕ_discrete u w) [
+    | yes s ↦
+        ap (iterations_at l) s
+        ∙ sym (min_past (iterations_at l w) y.0 (ltZ_false y.0 (iterations_at l w) t))
+        ∙ rw (sum, meets, eq-eqb (g.from e) u (sym leaves ∙ sym s), ← (reached u), s) refl
+    | no s ↦ rw (ne_eqb (g.from e) u (λ z. s (sym z ∙ sym leaves))) (reached u)
+  ])
 
 -- wire e of a round from d, from the totals l to l'
 module _ (g : Net) (d : ℕ → ℤ) (e : ℕ) (l l' : List Iterations) where

@@ -1,5 +1,5 @@
 -- The longest wait so far, at each place. Assumes nothing.
-use mathlib.Core.Path.{◌≡◌, refl, sym, ap, ◌∙◌}
+use mathlib.Core.Path.{◌≡◌, sym, ap, ◌∙◌}
 use mathlib.Core.Bool.{cond}
 use mathlib.Core.List.{List}
 use Prim.Native.Nat.{ℕ, ◌+◌, ◌<◌, max}
@@ -7,13 +7,12 @@ use native.Mathlib.Numerals.{add-one}
 use native.Mathlib.Decide.{ℕ_discrete, dec_le}
 use native.Mathlib.Omega.{arith}
 use lib.Dec.{eqb}
-use lib.ListN.{length, get_or, set, replicate}
+use lib.ListN.{length, get_or, set}
 use lib.Seq.{get_or-set_same, get_or-set_other}
 use lib.IntN.{pos}
 use lib.Signed.{le_z}
 use borrow.Author.Tests.{eq-eqb, ne_eqb, le-leb, lt-leb}
 use Rattle.times.specs.declared.Cycles.{Cycles}
-use Rattle.times.proofs.ArrayLaws.{none_filled}
 use Rattle.words.specs.Loops.{largest}
 use Rattle.times.specs.Times.{cycles_at}
 
@@ -45,6 +44,6 @@ longest_more n place f many l long before fits old new w eo ew en k hk =
     ])
 
 -- nothing belongs anywhere yet
-pub longest_none : (place f : ℕ → ℕ) (many : ℕ) (z : Cycles) → z.0 ≡ pos 0 → SoFar 0 place f many (replicate many z)
+pub longest_none : (place f : ℕ → ℕ) (many : ℕ) (l : List Cycles) → ((k : ℕ) → cycles_at l k ≡ pos 0) → SoFar 0 place f many l
 unfolding largest
-longest_none place f many z h k hk = none_filled (λ (x : Cycles). x.0) (record { 0 = pos 0 }) refl z h many k
+longest_none place f many l h k hk = h k

@@ -30,6 +30,9 @@ near_size (negsuc n) h = absurd (omega (arith, le_up h.0))
 gap_size : (a b : ℤ) → Near a → Near b → (up (b -ℤ a) ≤ 752) × (down (b -ℤ a) ≤ 752)
 gap_size a b ha hb = let s = dif_size b a in (omega (arith, s.0, (near_size a ha).1, (near_size b hb).0), omega (arith, s.1, (near_size a ha).0, (near_size b hb).1))
 
+pub gap_fits_too : (a b : ℤ) → Near a → Near b → SFits w32 (b -ℤ a)
+gap_fits_too a b ha hb = let s = gap_size a b ha hb in fits (b -ℤ a) (omega (arith, s.0)) (omega (arith, s.1))
+
 turns_size : (n : ℕ) (a b : ℤ) → n ≤ 32 → Near a → Near b → (up (pos n *ℤ (b -ℤ a)) ≤ 24064) × (down (pos n *ℤ (b -ℤ a)) ≤ 24064)
 turns_size n a b h ha hb =
     let s = gap_size a b ha hb in

@@ -6,7 +6,7 @@ use lib.ListN.{take}
 use Rattle.rounds.specs.NetOf.{net_of}
 use Rattle.rounds.proofs.RowLaws.{closed}
 use Rattle.loops.proofs.RingLaws.{walk_wire}
-use Rattle.loops.proofs.ShownLaws.{some_closes, part, shown_loop}
+use Rattle.loops.proofs.ShownLaws.{least, some_closes, part, shown_loop}
 use Rattle.loops.proofs.find_loop.Goals as goal
 
 pub closes-requires : goal.closes-requires
@@ -28,7 +28,8 @@ returns c =
     let span = c.unwrap-span.result in
     let met = rw c.unwrap-span.ensures at c.closes.ensures in
     let p = part g (closed n.bounds n.wired) es c.fall.ensures span met in
-    let t = shown_loop g (closed n.bounds n.wired) es c.fall.ensures span met c.lowest.result c.lowest.ensures in
+    let low = c.lowest.ensures in
+    let t = shown_loop g (closed n.bounds n.wired) es c.fall.ensures span met c.lowest.result low.0 (least _ c.lowest.result low) in
     record {
       first = t.first;
       rest = t.rest;

@@ -6,10 +6,10 @@ use Prim.Native.Nat.{ℕ}
 use native.Mathlib.Omega.{arith}
 use borrow.Author.Rules.{rules}
 use lib.Dec.{eqb}
-use lib.ListN.{length, get_or, length-set}
+use lib.ListN.{length, get_or, length-set, replicate}
 use lib.IntN.{pos}
 use Rattle.times.specs.declared.Cycles.{Cycles}
-use Rattle.times.proofs.ArrayLaws.{filled_more}
+use Rattle.times.proofs.ArrayLaws.{filled_more, none_filled}
 use Rattle.times.proofs.OrderLaws.{larger_is}
 use Rattle.words.specs.Loops.{largest}
 use Rattle.records.specs.declared.Node.{Node}
@@ -26,13 +26,14 @@ use Rattle.waits.proofs.waits.Goals as goal
 pub loop-e-init : goal.loop-e-init
 loop-e-init c =
     let b = c.args.sheet.now.b.now in
+    let zero : Cycles = record { 0 = pos 0 } in
     let taps = tap (sheet_of b) (start (net (sheet_of b))) in (
       search rules,
       (λ k h. absurd (omega arith)),
       refl,
-      longest_none (from_node b) taps 48 _ refl,
+      longest_none (from_node b) taps 48 (replicate 48 zero) (none_filled (λ (x : Cycles). x.0) zero refl zero refl 48),
       refl,
-      longest_none (from_unit b) taps 8 _ refl,
+      longest_none (from_unit b) taps 8 (replicate 8 zero) (none_filled (λ (x : Cycles). x.0) zero refl zero refl 8),
     )
 
 pub wait_of-wait-requires-clause-near : goal.wait_of-wait-requires-clause-near
