@@ -71,11 +71,13 @@ fn judge_rest(plan: &WholePlan) -> Result<(), Reason>
     ensures { result ≡ judged (switches_fault plan.now.b.now then nodes_fault (plan_read plan.now.b.now)) }
 {
     let slots = slots_of(plan);
-    let joined = join_switches(plan, &slots.occupied)?;
+    // Bound by itself, so that the masks are read where they were filled.
+    let occupied = slots.occupied;
+    let joined = join_switches(plan, &occupied)?;
     if slots.clash {
         return Err(Reason::Clash);
     }
-    judge_inputs(plan, &slots.occupied, &joined)
+    judge_inputs(plan, &occupied, &joined)
 }
 
 // The plan that the bytes are, or the reason of their first fault.
